@@ -18,8 +18,11 @@ static wz_replica_t counters;
 static wz_bound_t row[HANDLES];
 static uint64_t words[WZ_WORDS(S, M)];
 static uint8_t bytes[WZ_BYTES(S, C)], holds[WZ_HOLDS(HANDLES, C, M)];
+/* Sessions as small as these need no word for the ends of segments; an array has one at least. */
+enum { ENDS = WZ_ENDS(HANDLES, C, M) };
+static uint64_t ends[ENDS + 1];
 #define STORE words, sizeof words / sizeof *words, bytes, sizeof bytes
-#define LENT &counters, row, HANDLES, STORE, holds, sizeof holds
+#define LENT &counters, row, HANDLES, STORE, holds, sizeof holds, ends, ENDS
 
 static uint64_t little(const uint8_t *from, int count) {
     uint64_t value = 0;

@@ -27,11 +27,11 @@ unsafe extern "C" {
     fn wz_store_make(words: *mut u64, words_len: usize, bytes: *const u8, bytes_len: usize, shape: Shape) -> u8;
     fn wz_standby_make(counters: &mut Replica, row: *mut Bound, row_len: usize, words: *mut u64, words_len: usize, bytes: *const u8, bytes_len: usize, settings: Settings) -> Answer;
     fn wz_on_frame(counters: &mut Replica, row: *mut Bound, row_len: usize, words: *mut u64, words_len: usize, bytes: *mut u8, bytes_len: usize,
-        holds: *mut u8, holds_len: usize, frame: *const u8, frame_len: usize, settings: Settings) -> Answer;
+        holds: *mut u8, holds_len: usize, ends: *mut u64, ends_len: usize, frame: *const u8, frame_len: usize, settings: Settings) -> Answer;
     fn wz_disconnected_from(counters: &mut Replica, row: *mut Bound, row_len: usize, words: *mut u64, words_len: usize, bytes: *mut u8, bytes_len: usize,
-        holds: *mut u8, holds_len: usize, connection: u64, settings: Settings) -> Answer;
+        holds: *mut u8, holds_len: usize, ends: *mut u64, ends_len: usize, connection: u64, settings: Settings) -> Answer;
     fn wz_promote(counters: &mut Replica, row: *mut Bound, row_len: usize, words: *mut u64, words_len: usize, bytes: *mut u8, bytes_len: usize,
-        holds: *mut u8, holds_len: usize, settings: Settings) -> Answer;
+        holds: *mut u8, holds_len: usize, ends: *mut u64, ends_len: usize, settings: Settings) -> Answer;
     fn wz_answer(answer: Answer, bytes: *const u8, bytes_len: usize, out: *mut u8, out_len: usize, version: u16) -> u64;
     fn wz_read(frame: *const u8, frame_len: usize, version: u16) -> u64;
     fn wz_session(words: *const u64, words_len: usize, bytes: *const u8, bytes_len: usize, out: *mut u8, out_len: usize, sessions: u32, c: u32, m: u32, place: usize, n: u64) -> u64;
@@ -50,12 +50,12 @@ fn count(code: u64) -> Result<usize, u8> {
 fn stored(code: u64) -> Option<usize> { if code == 0 { None } else { count(code).ok() } }
 
 /// The lent memory of one standby; every call borrows it whole, so no two overlap.
-struct Standby { counters: Replica, row: Vec<Bound>, words: Vec<u64>, bytes: Vec<u8>, holds: Vec<u8>, settings: Settings }
+struct Standby { counters: Replica, row: Vec<Bound>, words: Vec<u64>, bytes: Vec<u8>, holds: Vec<u8>, ends: Vec<u64>, settings: Settings }
 
 /// All that a call lends, in the header's order.
 macro_rules! lent {
     ($s:ident) => {
-        (&mut $s.counters, $s.row.as_mut_ptr(), $s.row.len(), $s.words.as_mut_ptr(), $s.words.len(), $s.bytes.as_mut_ptr(), $s.bytes.len(), $s.holds.as_mut_ptr(), $s.holds.len())
+        (&mut $s.counters, $s.row.as_mut_ptr(), $s.row.len(), $s.words.as_mut_ptr(), $s.words.len(), $s.bytes.as_mut_ptr(), $s.bytes.len(), $s.holds.as_mut_ptr(), $s.holds.len(), $s.ends.as_mut_ptr(), $s.ends.len())
     };
 }
 
@@ -64,9 +64,11 @@ impl Standby {
     fn new(shape: Shape, handles: usize, incarnation: u64, max_lag: u64) -> Result<Self, u8> {
         let (s, c, m) = (shape.places as usize, shape.bytes as usize, shape.messages as usize);
         let (words, bytes) = (vec![0; 66 + s * (16 + 2 * m)], vec![0; s * (224 + c)]);
-        let holds = vec![0; handles * (c + 22 * m + 131)];
-        let mut made = Standby { counters: Replica::default(), row: vec![Bound::default(); handles], words, bytes, holds, settings: Settings { shape, incarnation, max_lag } };
-        let (k, r, rl, w, wl, b, bl, _, _) = lent!(made);
+        let hold = c + 22 * m + 131;
+        // A word for each 65,536 bytes of a hold area says where a closed segment ends.
+        let (holds, ends) = (vec![0; handles * hold], vec![0; handles * (hold / 65_536)]);
+        let mut made = Standby { counters: Replica::default(), row: vec![Bound::default(); handles], words, bytes, holds, ends, settings: Settings { shape, incarnation, max_lag } };
+        let (k, r, rl, w, wl, b, bl, ..) = lent!(made);
         match unsafe { wz_store_make(w, wl, b, bl, shape) } {
             0 => match unsafe { wz_standby_make(k, r, rl, w, wl, b, bl, made.settings) }.refusal { 0 => Ok(made), refusal => Err(refusal) },
             refusal => Err(refusal),
@@ -78,8 +80,8 @@ impl Standby {
 
     /// The kind of the answer and its bytes, or the refusal.
     fn on_frame(&mut self, frame: &[u8]) -> Result<(u8, Vec<u8>), u8> {
-        let (k, r, rl, w, wl, b, bl, h, hl) = lent!(self);
-        let answer = unsafe { wz_on_frame(k, r, rl, w, wl, b, bl, h, hl, frame.as_ptr(), frame.len(), self.settings) };
+        let (k, r, rl, w, wl, b, bl, h, hl, e, el) = lent!(self);
+        let answer = unsafe { wz_on_frame(k, r, rl, w, wl, b, bl, h, hl, e, el, frame.as_ptr(), frame.len(), self.settings) };
         let mut out = vec![0; 143];
         let written = count(unsafe { wz_answer(answer, b, bl, out.as_mut_ptr(), out.len(), self.version()) })?;
         out.truncate(written);
@@ -88,13 +90,13 @@ impl Standby {
 
     fn disconnected(&mut self) {
         let connection = self.counters.connections;
-        let (k, r, rl, w, wl, b, bl, h, hl) = lent!(self);
-        unsafe { wz_disconnected_from(k, r, rl, w, wl, b, bl, h, hl, connection, self.settings) };
+        let (k, r, rl, w, wl, b, bl, h, hl, e, el) = lent!(self);
+        unsafe { wz_disconnected_from(k, r, rl, w, wl, b, bl, h, hl, e, el, connection, self.settings) };
     }
 
     fn promote(&mut self) -> Result<(), u8> {
-        let (k, r, rl, w, wl, b, bl, h, hl) = lent!(self);
-        match unsafe { wz_promote(k, r, rl, w, wl, b, bl, h, hl, self.settings) }.refusal { 0 => Ok(()), refusal => Err(refusal) }
+        let (k, r, rl, w, wl, b, bl, h, hl, e, el) = lent!(self);
+        match unsafe { wz_promote(k, r, rl, w, wl, b, bl, h, hl, e, el, self.settings) }.refusal { 0 => Ok(()), refusal => Err(refusal) }
     }
 
     /// The session at a place, as wz_session writes it.
@@ -145,7 +147,7 @@ fn show_session(told: &[u8]) {
 const KINDS: [&str; 9] = ["none", "Hello", "Welcome", "Bind", "Batch", "Ack", "Nack", "Bound", "Checked"];
 
 fn main() {
-    assert_eq!(unsafe { wz_version() }, 5, "these declarations are those of version 0.5");
+    assert_eq!(unsafe { wz_version() }, 6, "these declarations are those of version 0.6");
     let mut standby = Standby::new(Shape { places: 4, bytes: 4096, messages: 64 }, 4, 7, 0).expect("the areas fit the settings");
     let mut stream = Vec::new();
     std::io::stdin().read_to_end(&mut stream).expect("standard input is read");

@@ -28,7 +28,7 @@ extern "C" {
 
 /* ---- Version: that of the release, VERSION. Before 1.0 the minor is raised with every record and signature that changes, from 1.0 on the major. */
 #define WZ_VERSION_MAJOR 0
-#define WZ_VERSION_MINOR 5
+#define WZ_VERSION_MINOR 6
 #define WZ_VERSION_PATCH 0
 /* Both as one number, as wz_version tells them. */
 #define WZ_VERSION (WZ_VERSION_MAJOR * 65536 + WZ_VERSION_MINOR)
@@ -47,6 +47,9 @@ extern "C" {
 #define WZ_BYTES(s, c) ((size_t)(s) * (224 + (size_t)(c)))
 /* The hold areas of a row of so many handles: each takes any session sent whole. Where no stamp has more than 3 digits after the point, 122 do for 131. */
 #define WZ_HOLDS(handles, c, m) ((size_t)(handles) * ((size_t)(c) + 22 * (size_t)(m) + 131))
+/* The words that go with these hold areas: one for each 65,536 bytes of each, so none where they are shorter. With fewer words, or none, a session sent whole is taken
+   more slowly, and never otherwise. */
+#define WZ_ENDS(handles, c, m) ((size_t)(handles) * (((size_t)(c) + 22 * (size_t)(m) + 131) / 65536))
 /* The longest frame that there is, in bytes: one never takes more of a stream. */
 #define WZ_MAX_FRAME 67108868
 /* Output: any frame of a whole sending, any answer of a standby, any session of wz_session, in bytes. */
@@ -270,7 +273,7 @@ typedef struct wz_due_t {
 /* ---- The version of the archive: WZ_VERSION of the header that it belongs to. */
 uint32_t wz_version(void);
 
-/* ---- The standby. */
+/* ---- The standby. `holds` are the hold areas, `ends` the words that say where their closed segments end: any content, any length, none too. */
 
 /* A standby over a store: new counters, every handle free; the sessions stay. 25. */
 wz_answer_t wz_standby_make(wz_replica_t *counters, wz_bound_t *row, size_t row_len, uint64_t *words, size_t words_len, const uint8_t *bytes, size_t bytes_len,
@@ -278,25 +281,25 @@ wz_answer_t wz_standby_make(wz_replica_t *counters, wz_bound_t *row, size_t row_
 
 /* Takes one whole frame and runs the pending commits. 1 to 7, 10 to 21, 25, 26, 32. */
 wz_answer_t wz_on_frame(wz_replica_t *counters, wz_bound_t *row, size_t row_len, uint64_t *words, size_t words_len, uint8_t *bytes, size_t bytes_len,
-    uint8_t *holds, size_t holds_len, const uint8_t *frame, size_t frame_len, wz_settings_t settings);
+    uint8_t *holds, size_t holds_len, uint64_t *ends, size_t ends_len, const uint8_t *frame, size_t frame_len, wz_settings_t settings);
 
 /* Takes one whole frame; its commit stays pending until wz_flush or a later frame, and its answer is sent after that. As wz_on_frame. */
 wz_answer_t wz_on_frame_held(wz_replica_t *counters, wz_bound_t *row, size_t row_len, uint64_t *words, size_t words_len, uint8_t *bytes, size_t bytes_len,
-    uint8_t *holds, size_t holds_len, const uint8_t *frame, size_t frame_len, wz_settings_t settings);
+    uint8_t *holds, size_t holds_len, uint64_t *ends, size_t ends_len, const uint8_t *frame, size_t frame_len, wz_settings_t settings);
 
 /* Runs the pending commits of a connection. 22, 25. */
 wz_answer_t wz_flush(wz_replica_t *counters, wz_bound_t *row, size_t row_len, uint64_t *words, size_t words_len, uint8_t *bytes, size_t bytes_len, uint8_t *holds,
-    size_t holds_len, uint64_t connection, wz_settings_t settings);
+    size_t holds_len, uint64_t *ends, size_t ends_len, uint64_t connection, wz_settings_t settings);
 
 /* A connection is gone: if it is the current one, handles and pending commits go. 25. */
 wz_answer_t wz_disconnected_from(wz_replica_t *counters, wz_bound_t *row, size_t row_len, uint64_t *words, size_t words_len, uint8_t *bytes, size_t bytes_len,
-    uint8_t *holds, size_t holds_len, uint64_t connection, wz_settings_t settings);
+    uint8_t *holds, size_t holds_len, uint64_t *ends, size_t ends_len, uint64_t connection, wz_settings_t settings);
 
 /* Takes over: every next outgoing number is raised by max_lag, every session marked B. 23, 25; the second without 23. */
 wz_answer_t wz_promote(wz_replica_t *counters, wz_bound_t *row, size_t row_len, uint64_t *words, size_t words_len, uint8_t *bytes, size_t bytes_len, uint8_t *holds,
-    size_t holds_len, wz_settings_t settings);
+    size_t holds_len, uint64_t *ends, size_t ends_len, wz_settings_t settings);
 wz_answer_t wz_promote_unchecked(wz_replica_t *counters, wz_bound_t *row, size_t row_len, uint64_t *words, size_t words_len, uint8_t *bytes, size_t bytes_len,
-    uint8_t *holds, size_t holds_len, wz_settings_t settings);
+    uint8_t *holds, size_t holds_len, uint64_t *ends, size_t ends_len, wz_settings_t settings);
 
 /* The bytes of an answer's frame, none for done; `bytes` is the store's, `version` what the connection speaks after the call (WZ_PROTOCOL_OF). 11; the answer's own
    refusal; 8 for a record that no call answers, and in version 1 for a long stamp; 9. */

@@ -14,12 +14,12 @@ struct answer { uint8_t refusal, kind; uint32_t handle; uint64_t epoch, incarnat
 
 #define LENT struct counters *, struct bound *, size_t, uint64_t *, size_t, uint8_t *, size_t
 extern struct answer make(LENT, struct settings);
-extern struct answer on_frame_held(LENT, uint8_t *, size_t, const uint8_t *, size_t, struct settings);
-extern struct answer on_frame(LENT, uint8_t *, size_t, const uint8_t *, size_t, struct settings);
-extern struct answer flush(LENT, uint8_t *, size_t, uint64_t, struct settings);
-extern struct answer disconnected_from(LENT, uint8_t *, size_t, uint64_t, struct settings);
-extern struct answer promote(LENT, uint8_t *, size_t, struct settings);
-extern struct answer promote_unchecked(LENT, uint8_t *, size_t, struct settings);
+extern struct answer on_frame_held(LENT, uint8_t *, size_t, uint64_t *, size_t, const uint8_t *, size_t, struct settings);
+extern struct answer on_frame(LENT, uint8_t *, size_t, uint64_t *, size_t, const uint8_t *, size_t, struct settings);
+extern struct answer flush(LENT, uint8_t *, size_t, uint64_t *, size_t, uint64_t, struct settings);
+extern struct answer disconnected_from(LENT, uint8_t *, size_t, uint64_t *, size_t, uint64_t, struct settings);
+extern struct answer promote(LENT, uint8_t *, size_t, uint64_t *, size_t, struct settings);
+extern struct answer promote_unchecked(LENT, uint8_t *, size_t, uint64_t *, size_t, struct settings);
 
 enum { S = 4, C = 256, M = 8, H = 4, CALLS = 7, FLAGS = 3 + H };
 static const struct settings with = { S, C, M, 7, 0 };
@@ -30,6 +30,7 @@ struct lent {
     struct bound row[H];
     uint64_t words[66 + S * (16 + 2 * M)];
     uint8_t bytes[S * (224 + C)], holds[H * (C + 22 * M + 122)];
+    uint64_t ends[H];
 };
 
 static uint8_t frame[1 << 14];
@@ -37,7 +38,7 @@ static size_t frame_len;
 
 static struct answer call(int which, struct lent *l) {
 #define AREAS &l->counters, l->row, H, l->words, sizeof l->words / 8, l->bytes, sizeof l->bytes
-#define HOLDS l->holds, sizeof l->holds
+#define HOLDS l->holds, sizeof l->holds, l->ends, H
     switch (which) {
     case 0: return on_frame_held(AREAS, HOLDS, frame, frame_len, with);
     case 1: return on_frame(AREAS, HOLDS, frame, frame_len, with);
@@ -74,7 +75,8 @@ static int same_left(const struct lent *l, const struct lent *r, int lent_flag, 
         uint8_t x = *flag(a, i), y = *flag(b, i);
         if (i != lent_flag ? x != y : y == 0 ? x != 0 : x != v && x != 1) return 0;
     }
-    return !memcmp(l->words, r->words, sizeof l->words) && !memcmp(l->bytes, r->bytes, sizeof l->bytes) && !memcmp(l->holds, r->holds, sizeof l->holds);
+    return !memcmp(l->words, r->words, sizeof l->words) && !memcmp(l->bytes, r->bytes, sizeof l->bytes) && !memcmp(l->holds, r->holds, sizeof l->holds)
+        && !memcmp(l->ends, r->ends, sizeof l->ends);
 }
 
 int main(void) {

@@ -21,7 +21,7 @@ static void holds(int is, int line, const char *words) {
 }
 #define HOLDS(is) holds(is, __LINE__, #is)
 
-enum { S = 3, C = 1024, M = 16, H = 4, WORDS = 66 + S * (16 + 2 * M), BYTES = S * (224 + C), HOLDS_LEN = H * (C + 22 * M + 131) };
+enum { S = 3, C = 1024, M = 16, H = 4, WORDS = 66 + S * (16 + 2 * M), BYTES = S * (224 + C), HOLDS_LEN = H * (C + 22 * M + 131), ENDS_LEN = H + 1 };
 static const wz_shape_t shape = { S, C, M };
 static const wz_settings_t settings = { { S, C, M }, 77, 5 };
 struct copy {
@@ -29,10 +29,11 @@ struct copy {
     wz_bound_t row[H];
     uint64_t words[WORDS];
     uint8_t bytes[BYTES], holds[HOLDS_LEN];
+    uint64_t ends[ENDS_LEN];
 };
 static struct copy a, b;
 #define STORE(x) (x).words, WORDS, (x).bytes, BYTES
-#define LENT(x) &(x).counters, (x).row, H, STORE(x), (x).holds, HOLDS_LEN
+#define LENT(x) &(x).counters, (x).row, H, STORE(x), (x).holds, HOLDS_LEN, (x).ends, ENDS_LEN
 #define TEXT(t) (const uint8_t *)(t), sizeof(t) - 1
 
 /* One frame, field by field. */
@@ -57,6 +58,7 @@ static uint16_t version(const struct copy *x) { return x->counters.version2 ? 2 
 static void stores(void) {
     struct copy *x = &a;
     HOLDS(WZ_WORDS(S, M) == WORDS && WZ_BYTES(S, C) == BYTES && WZ_HOLDS(H, C, M) == HOLDS_LEN);
+    HOLDS(WZ_ENDS(H, C, M) == 0 && WZ_ENDS(4, 65405, 0) == 4 && WZ_ENDS(4, 65404, 0) == 0 && WZ_ENDS(1, WZ_MAX_C, WZ_MAX_M) == 534);
     HOLDS(wz_store_make(x->words, WORDS - 1, x->bytes, BYTES, shape) == WZ_REFUSED_RULES_BROKEN);
     HOLDS(wz_store_make(x->words, WORDS, x->bytes, BYTES - 1, shape) == WZ_REFUSED_RULES_BROKEN);
     HOLDS(wz_store_make(STORE(a), shape) == 0);
@@ -139,7 +141,10 @@ static void standby(void) {
     HOLDS(r.summary.last_outgoing == wz_store_last_outgoing(STORE(a), shape, 1, 5).value);
     batch(10, 1, WZ_PART_WHOLE, 2);
     number(WZ_CHANGE_RESET, 1); number(WZ_CHANGE_RECORD, 1); number(1, 8); text("held"); number(0, 4); end();
+    /* A Whole writes one word, of the place of its handle's record. */
+    memset(a.ends, 255, sizeof a.ends);
     HOLDS(give(&a).kind == WZ_KIND_ACK && a.row[1].held_len == 18 && a.row[1].held_bytes == 4);
+    for (int i = 0; i < ENDS_LEN; i++) HOLDS(a.ends[i] == (i == 1 ? 0 : UINT64_MAX));
     batch(9, 2, WZ_PART_COMMIT, 0); number(0, 4); end();
     r = give(&a);
     HOLDS(r.refusal == WZ_REFUSED_UNBOUND && r.kind == WZ_KIND_NONE && WZ_REFUSAL(wz_answer(r, a.bytes, BYTES, out, sizeof out, 1)) == WZ_REFUSED_UNBOUND);
@@ -235,8 +240,8 @@ static void lengths(void) {
     hello_in(2, 5); HOLDS(give(&b).kind == WZ_KIND_WELCOME);
     begin(WZ_KIND_BIND); number(9, 4); number(5, 8); number(0, 8); text(key); text(key); text(key); text(key); end();
     HOLDS(give(&b).kind == WZ_KIND_BOUND);
-    HOLDS(wz_on_frame(&b.counters, b.row, H, STORE(b), b.holds, WZ_HOLDS(H, C, M) - 1, out, WZ_FRAME(C, M), settings).refusal == WZ_REFUSED_HOLD_AREA_FULL);
-    HOLDS(wz_on_frame(&b.counters, b.row, H, STORE(b), b.holds, WZ_HOLDS(H, C, M), out, WZ_FRAME(C, M), settings).kind == WZ_KIND_ACK);
+    HOLDS(wz_on_frame(&b.counters, b.row, H, STORE(b), b.holds, WZ_HOLDS(H, C, M) - 1, b.ends, ENDS_LEN, out, WZ_FRAME(C, M), settings).refusal == WZ_REFUSED_HOLD_AREA_FULL);
+    HOLDS(wz_on_frame(&b.counters, b.row, H, STORE(b), b.holds, WZ_HOLDS(H, C, M), b.ends, 0, out, WZ_FRAME(C, M), settings).kind == WZ_KIND_ACK);
     wz_answer_t full = give(&b);
     HOLDS(WZ_COUNT(wz_answer(full, b.bytes, BYTES, out, WZ_ANSWER, version(&b))) == WZ_ANSWER);
     HOLDS(WZ_REFUSAL(wz_answer(full, b.bytes, BYTES, out, WZ_ANSWER - 1, version(&b))) == WZ_REFUSED_NO_ROOM);
@@ -356,7 +361,7 @@ static void versions(void) {
     for (uint32_t i = 1; i < S; i++) { bind(i, 5, i == 1 ? "SHORT" : "OTHER"); HOLDS(give(&b).kind == WZ_KIND_BOUND); }
     left = b;
     bind(9, 5, "LONG");
-    HOLDS(wz_on_frame(&b.counters, b.row, S - 1, STORE(b), b.holds, (S - 1) * (HOLDS_LEN / H), frame, len, settings).refusal == WZ_REFUSED_LONG_STAMP);
+    HOLDS(wz_on_frame(&b.counters, b.row, S - 1, STORE(b), b.holds, (S - 1) * (HOLDS_LEN / H), b.ends, S - 1, frame, len, settings).refusal == WZ_REFUSED_LONG_STAMP);
     HOLDS(give(&b).refusal == WZ_REFUSED_LONG_STAMP && version(&b) == 1 && b.counters.epoch == 5 && b.counters.connections == left.counters.connections);
     HOLDS(!memcmp(left.row, b.row, sizeof left.row) && !memcmp(left.words, b.words, sizeof left.words));
     HOLDS(!memcmp(left.bytes, b.bytes, sizeof left.bytes) && !memcmp(left.holds, b.holds, sizeof left.holds));

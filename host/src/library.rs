@@ -1,7 +1,7 @@
 //! The functions of include/wizhdulet.h that the program calls, and their records.
 
 /// The version of the header that these declarations are of.
-pub const VERSION: u32 = 5;
+pub const VERSION: u32 = 6;
 
 #[repr(C)]
 #[derive(Clone, Copy, Default)]
@@ -118,17 +118,19 @@ unsafe extern "C" {
     pub fn wz_standby_make(counters: &mut Replica, row: *mut Bound, row_len: usize, words: *mut u64, words_len: usize, bytes: *const u8,
         bytes_len: usize, settings: Settings) -> Answer;
     pub fn wz_on_frame(counters: &mut Replica, row: *mut Bound, row_len: usize, words: *mut u64, words_len: usize, bytes: *mut u8,
-        bytes_len: usize, holds: *mut u8, holds_len: usize, frame: *const u8, frame_len: usize, settings: Settings) -> Answer;
+        bytes_len: usize, holds: *mut u8, holds_len: usize, ends: *mut u64, ends_len: usize, frame: *const u8, frame_len: usize,
+        settings: Settings) -> Answer;
     pub fn wz_on_frame_held(counters: &mut Replica, row: *mut Bound, row_len: usize, words: *mut u64, words_len: usize, bytes: *mut u8,
-        bytes_len: usize, holds: *mut u8, holds_len: usize, frame: *const u8, frame_len: usize, settings: Settings) -> Answer;
+        bytes_len: usize, holds: *mut u8, holds_len: usize, ends: *mut u64, ends_len: usize, frame: *const u8, frame_len: usize,
+        settings: Settings) -> Answer;
     pub fn wz_flush(counters: &mut Replica, row: *mut Bound, row_len: usize, words: *mut u64, words_len: usize, bytes: *mut u8,
-        bytes_len: usize, holds: *mut u8, holds_len: usize, connection: u64, settings: Settings) -> Answer;
+        bytes_len: usize, holds: *mut u8, holds_len: usize, ends: *mut u64, ends_len: usize, connection: u64, settings: Settings) -> Answer;
     pub fn wz_disconnected_from(counters: &mut Replica, row: *mut Bound, row_len: usize, words: *mut u64, words_len: usize, bytes: *mut u8,
-        bytes_len: usize, holds: *mut u8, holds_len: usize, connection: u64, settings: Settings) -> Answer;
+        bytes_len: usize, holds: *mut u8, holds_len: usize, ends: *mut u64, ends_len: usize, connection: u64, settings: Settings) -> Answer;
     pub fn wz_promote(counters: &mut Replica, row: *mut Bound, row_len: usize, words: *mut u64, words_len: usize, bytes: *mut u8,
-        bytes_len: usize, holds: *mut u8, holds_len: usize, settings: Settings) -> Answer;
+        bytes_len: usize, holds: *mut u8, holds_len: usize, ends: *mut u64, ends_len: usize, settings: Settings) -> Answer;
     pub fn wz_promote_unchecked(counters: &mut Replica, row: *mut Bound, row_len: usize, words: *mut u64, words_len: usize, bytes: *mut u8,
-        bytes_len: usize, holds: *mut u8, holds_len: usize, settings: Settings) -> Answer;
+        bytes_len: usize, holds: *mut u8, holds_len: usize, ends: *mut u64, ends_len: usize, settings: Settings) -> Answer;
     pub fn wz_answer(answer: Answer, bytes: *const u8, bytes_len: usize, out: *mut u8, out_len: usize, version: u16) -> u64;
     pub fn wz_session(words: *const u64, words_len: usize, bytes: *const u8, bytes_len: usize, out: *mut u8, out_len: usize, sessions: u32,
         c: u32, m: u32, place: usize, n: u64) -> u64;

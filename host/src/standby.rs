@@ -72,6 +72,7 @@ pub struct Standby {
     pub words: Vec<u64>,
     bytes: Vec<u8>,
     holds: Vec<u8>,
+    ends: Vec<u64>,
     pub settings: Settings,
 }
 
@@ -102,6 +103,8 @@ macro_rules! over {
                 $standby.bytes.len(),
                 $standby.holds.as_mut_ptr(),
                 $standby.holds.len(),
+                $standby.ends.as_mut_ptr(),
+                $standby.ends.len(),
                 $($handed,)*
                 $standby.settings,
             )
@@ -148,11 +151,14 @@ impl Standby {
             _ => Err(Failure::usage(format!("the limits don't fit: R {refusal}"))),
         };
         fits(if c > 33_554_432 || m > 65_536 { 25 } else { 0 })?;
+        // Any session fits a hold area of this length; a word for each 65,536 bytes of it says where a closed segment ends.
+        let hold = c + 22 * m + 131;
         let mut made = Standby {
             counters: Replica::default(),
             words: zeros(Some(66 + s * (16 + 2 * m)))?,
             bytes: zeros(Some(s * (224 + c)))?,
-            holds: zeros(limits.handles.checked_mul(c + 22 * m + 131))?,
+            holds: zeros(limits.handles.checked_mul(hold))?,
+            ends: zeros(limits.handles.checked_mul(hold / 65_536))?,
             row: zeros(Some(limits.handles))?,
             settings,
         };

@@ -1,9 +1,9 @@
 -- A line and its text. Assumes nothing.
 use mathlib.Core.Path.{◌≡◌, refl, sym, ap, subst, ◌∙◌}
 use mathlib.Core.Bool.{Bool, true, false}
-use mathlib.Core.List.{List}
+use mathlib.Core.List.{List, [], ◌∷◌}
 use mathlib.Core.Option.{Option, some}
-use Prim.Native.Nat.{ℕ, ◌+◌, ◌-◌, ◌*◌, ◌^◌, ◌≤◌, ◌<◌}
+use Prim.Native.Nat.{ℕ, suc, ◌+◌, ◌-◌, ◌*◌, ◌^◌, ◌≤◌, ◌<◌}
 use native.Mathlib.Omega.{arith}
 use native.Mathlib.Nat.{le_trans}
 use lib.ListN.{length, get_or, take, drop, length-append}
@@ -27,6 +27,7 @@ use Rattle.store_areas.proofs.Holding.{all_holdable}
 use Rattle.base_hex.specs.Lines.{ReadsLine, Puts, line_read, line_length}
 use Rattle.std.specs.Prelude as std
 use Rattle.std.specs.Prelude.{Some, None}
+use Rattle.standby_segments.specs.Segments.{hold_areas}
 use Rattle.standby_row.specs.declared.Bound.{Bound}
 use Rattle.standby_counters.specs.declared.Replica.{Replica}
 use Rattle.standby_state.specs.declared.Settings.{Settings}
@@ -38,7 +39,7 @@ use Rattle.frames_reply.specs.Texts.{outcome_text, answer_text, record_text}
 use Rattle.frames_reply.proofs.Laws.{exact_text}
 use Rattle.standby_step.specs.Calls.{room_all, standby_of, allowed_all, Called}
 use Rattle.model_lines.specs.Program.{frames_settings, line_text, spoken, on_bytes, line_step}
-use Rattle.frames_line.specs.Answering.{the_settings, Heard, unread, called, AnswersLine}
+use Rattle.frames_line.specs.Answering.{no_ends, the_settings, Heard, unread, called, AnswersLine}
 
 -- ---- a line
 
@@ -68,13 +69,20 @@ text_is v (reply f) t big = said v f t big
 text_is v (refused n) t big = refl
 text_is v done t big = absurd t
 
+no_words : (l : List ℕ) → length l ≡ 0 → l ≡ []
+no_words [] e = refl
+no_words (x ∷ l) e = absurd (some e)
+  where
+    some : suc (length l) ≡ 0 → ⊥
+    some e = omega (arith, e)
+
 -- what the lent areas and the counters are, whatever they hold
 pub record Numbers (c : Replica) (w b : List ℕ) : Type 0 where
   pub epoch : c.epoch.0 < 2 ^ 64
   pub words : Small (2 ^ 64) w
   pub bytes : Small 256 b
 
-telling : (c : Replica) (row : List Bound) (w b h : List ℕ) → Numbers c w b → Telling (settings_of the_settings (room_all row h)) (standby_of the_settings c row w b h)
+telling : (c : Replica) (row : List Bound) (w b h : List ℕ) → Numbers c w b → Telling (settings_of the_settings (room_all row h)) (standby_of the_settings c row w b (no_ends h))
 telling c row w b h n = record { epoch_u64 = omega (arith, n.epoch); sessions_ok = all_holdable the_settings.shape w b n.words n.bytes }
 
 module _ (l : List ℕ) (c : Replica) (row : List Bound) (w b h out : List ℕ) where
@@ -82,19 +90,19 @@ module _ (l : List ℕ) (c : Replica) (row : List Bound) (w b h out : List ℕ) 
   L = settings_of the_settings (room_all row h)
 
   abbrev st : Standby
-  st = standby_of the_settings c row w b h
+  st = standby_of the_settings c row w b (no_ends h)
 
-  told : {c' : Replica} {row' : List Bound} {w' b' h' : List ℕ} {a : the_code.Answer} (f : List ℕ) → Numbers c w b → T (is_bytes f) → Called the_settings (on_frame f) c c' row row' w w' b b' h h' a → Told (version_of c'.version2) (the-answers.answer_of b' a)
+  told : {c' : Replica} {row' : List Bound} {w' b' h' : List ℕ} {a : the_code.Answer} (f : List ℕ) → Numbers c w b → T (is_bytes f) → Called the_settings (on_frame f) c c' row row' w w' b b' (no_ends h) (no_ends h') a → Told (version_of c'.version2) (the-answers.answer_of b' a)
   told {c' = c'} {b' = b'} {a = a} f n ok k = go (allowed_all the_settings row w b h) refl
     where
       go : (x : Bool) → allowed_all the_settings row w b h ≡ x → Told (version_of c'.version2) (the-answers.answer_of b' a)
       go true e = subst (λ (r : the-state.Result). Told r.state.counters.version r.answer) (sym (k.steps e).is) (frame_told L st f (omega arith) ok (telling c row w b h n))
       go false e = subst (λ (x : the_code.Answer). Told (version_of c'.version2) (the-answers.answer_of b' x)) (sym (k.refuses e).0) tt
 
-  heard_is : {c' : Replica} {row' : List Bound} {w' b' h' t : List ℕ} (x : List ℕ) → x ≡ t → Heard l c c' row row' w w' b b' h h' t → allowed_all the_settings row w b h ≡ true → record { state = standby_of the_settings c' row' w' b' h'; text = x } ≡ line_step L st l
-  heard_is x ex (unread e ec er ew eb eh) ok = (λ j. record { state = standby_of the_settings (ec j) (er j) (ew j) (eb j) (eh j); text = ex j }) ∙ sym (ap (on_bytes L st) e)
+  heard_is : {c' : Replica} {row' : List Bound} {w' b' h' t : List ℕ} (x : List ℕ) → x ≡ t → Heard l c c' row row' w w' b b' h h' t → allowed_all the_settings row w b h ≡ true → record { state = standby_of the_settings c' row' w' b' (no_ends h'); text = x } ≡ line_step L st l
+  heard_is x ex (unread e ec er ew eb eh) ok = (λ j. record { state = standby_of the_settings (ec j) (er j) (ew j) (eb j) (no_ends (eh j)); text = ex j }) ∙ sym (ap (on_bytes L st) e)
   heard_is {c'} {row'} {w'} {b'} {h'} x ex (called f a e k) ok =
-      (λ j. record { state = standby_of the_settings c' row' w' b' h'; text = ex j }) ∙ ap spoken (k.steps ok).is ∙ sym (ap (on_bytes L st) e)
+      (λ j. record { state = standby_of the_settings c' row' w' b' (no_ends h'); text = ex j }) ∙ ap spoken (k.steps ok).is ∙ sym (ap (on_bytes L st) e)
 
   answers : {c' : Replica} {row' : List Bound} {w' b' h' out' t : List ℕ} {n : ℕ} → Heard l c c' row row' w w' b b' h h' t → Puts t out out' n → AnswersLine l c c' row row' w w' b b' h h' out out' n
   answers {t = t} {n = n} k p = record { text = t; heard = k; puts = p; is = heard_is _ (put_text p) k }
@@ -102,12 +110,13 @@ module _ (l : List ℕ) (c : Replica) (row : List Bound) (w b h out : List ℕ) 
   pub bad_line : {buf out' : List ℕ} {r : std.Option ℕ} {n : ℕ} → ReadsLine (line_bytes l) buf r → r ≡ None → Puts (refusal_text 26) out out' n → AnswersLine l c c row row w w b b h h out out' n
   bad_line {buf} g e p = answers (unread (sym g.bytes ∙ ap (line_read buf) e) refl refl refl refl refl) p
 
-  pub some_line : {buf : List ℕ} {r : std.Option ℕ} (m : ℕ) → Numbers c w b → ReadsLine (line_bytes l) buf r → ((i : ℕ) → get_or buf i 0 < 256) → r ≡ Some m → {c' : Replica} {row' : List Bound} {w' b' h' out' : List ℕ} {s : Settings} {a : the_code.Answer} {n k : ℕ} → answer_bytes ≤ k → s ≡ the_settings → Called s (on_frame (take (m - 0) (drop 0 buf))) c c' row row' w w' b b' h h' a → Puts (record_text (version_of c'.version2) k b' a) out out' n → AnswersLine l c c' row row' w w' b b' h h' out out' n
-  some_line {buf} m num g ok e {c'} {row'} {w'} {b'} {h'} {out' = out'} {a = a} {n = n} {k = room} big es k p =
+  pub some_line : {buf : List ℕ} {r : std.Option ℕ} (m : ℕ) → Numbers c w b → ReadsLine (line_bytes l) buf r → ((i : ℕ) → get_or buf i 0 < 256) → r ≡ Some m → {c' : Replica} {row' : List Bound} {w' b' h' ends' out' : List ℕ} {s : Settings} {a : the_code.Answer} {n k : ℕ} → answer_bytes ≤ k → s ≡ the_settings → length ends' ≡ 0 → Called s (on_frame (take (m - 0) (drop 0 buf))) c c' row row' w w' b b' (no_ends h) (hold_areas h' ends') a → Puts (record_text (version_of c'.version2) k b' a) out out' n → AnswersLine l c c' row row' w w' b b' h h' out out' n
+  some_line {buf} m num g ok e {c'} {row'} {w'} {b'} {h'} {ends'} {out' = out'} {s} {a = a} {n = n} {k = room} big es none k p =
       let cut : m - 0 ≡ m = omega arith in
-      let call : Called the_settings (on_frame (take m buf)) c c' row row' w w' b b' h h' a =
-      subst (λ (x : ℕ). Called the_settings (on_frame (take x buf)) c c' row row' w w' b b' h h' a) cut
-      (subst (λ (x : Settings). Called x (on_frame (take (m - 0) buf)) c c' row row' w w' b b' h h' a) es k) in
+      let call : Called the_settings (on_frame (take m buf)) c c' row row' w w' b b' (no_ends h) (no_ends h') a =
+      subst (λ (x : ℕ). Called the_settings (on_frame (take x buf)) c c' row row' w w' b b' (no_ends h) (no_ends h') a) cut
+      (subst (λ (x : Settings). Called x (on_frame (take (m - 0) buf)) c c' row row' w w' b b' (no_ends h) (no_ends h') a) es
+      (subst (λ (x : List ℕ). Called s (on_frame (take (m - 0) buf)) c c' row row' w w' b b' (no_ends h) (hold_areas h' x) a) (no_words ends' none) k)) in
       let t : Told (version_of c'.version2) (the-answers.answer_of b' a) = told (take m buf) num (bytes_take m buf (are_bytes buf ok)) call in
       answers (called (take m buf) a (sym g.bytes ∙ ap (line_read buf) e) call) (subst (λ (x : List ℕ). Puts x out out' n) (exact_text (version_of c'.version2) room b' a call.exact ∙ text_is (version_of c'.version2) (the-answers.answer_of b' a) t big) p)
 

@@ -67,6 +67,7 @@ fn answer_in(
                 words,
                 bytes,
                 holds,
+                &mut [],
                 &buf[0..n],
                 settings(),
             );

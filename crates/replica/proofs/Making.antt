@@ -6,11 +6,12 @@ use mathlib.Core.Option.{none}
 use Prim.Native.Nat.{ℕ, ◌<◌}
 use native.Mathlib.Omega.{arith}
 use lib.Dec.{leb}
-use lib.ListN.{length, get_or, set, drop, replicate}
+use lib.ListN.{length, get_or, set, replicate}
+use Rattle.standby_segments.specs.Segments.{Holds, Lengths}
 use Rattle.standby_row.specs.declared.Bound.{Bound as BoundRecord}
 use Rattle.std.specs.List.{list_any}
 use Rattle.standby_row.specs.Row.{broken_of, cleared, clashes, apart_of, cleared_all}
-use Rattle.standby_handles.specs.Rows.{row_of}
+use Rattle.standby_handles.specs.Rows.{areas_behind, row_of}
 use Rattle.store_areas.specs.Areas.{allowed, Rules, places_of}
 use Rattle.store_areas.proofs.Ruling.{rules_of, rules_true}
 use Rattle.standby_pending.proofs.Laws.{cleared as no-commits}
@@ -24,7 +25,7 @@ use Rattle.standby_state.specs.declared.Settings.{Settings}
 use Rattle.standby_state.specs.declared.Answer.{Answer}
 use Rattle.standby_state.specs.Answers.{is_refused, is_done}
 use Rattle.standby_state.specs.Outcomes.{counters_of}
-use Rattle.standby_step.specs.Calls.{room_all, standby_of, allowed_all}
+use Rattle.standby_step.specs.Calls.{room_all, lengths_all, standby_of, allowed_all}
 use Rattle.standby_step.proofs.Rows.{of_whole, whole_cleared}
 use Rattle.replica.specs.Making.{new_replica, MadeOver}
 
@@ -33,9 +34,9 @@ one_inside s w b on = let r : Rules s.shape w b = rules_of s.shape w b on in ome
 
 -- ---- the row, freed
 
-all_free : (bound : BoundRecord → List ℕ → Bound) (room : ℕ) (row : List BoundRecord) (h : List ℕ) → row_of bound room (cleared_all row) h ≡ replicate (length row) none
+all_free : (bound : BoundRecord → Holds → Bound) (room : Lengths) (row : List BoundRecord) (h : Holds) → row_of bound room (cleared_all row) h ≡ replicate (length row) none
 all_free bound room [] h = refl
-all_free bound room (g ∷ gs) h = ap (λ (t : Row Bound). none ∷ t) (all_free bound room gs (drop room h))
+all_free bound room (g ∷ gs) h = ap (λ (t : Row Bound). none ∷ t) (all_free bound room gs (areas_behind room h))
 
 -- free records are apart
 freed_apart : (row : List BoundRecord) → apart_of (cleared_all row) ≡ true
@@ -50,12 +51,12 @@ module _ (s : Settings) (c : Replica) (row : List BoundRecord) (w b : List ℕ) 
   pub not_made : {a : Answer} → allowed s.shape w b ≡ false → a ≡ is_refused 25 → MadeOver s c c row row w w b a
   not_made off is = record { refuses = λ _. (is, (refl, (refl, refl))); makes = λ on. absurd (true≢false (sym on ∙ off)) }
 
-  new : Rules s.shape w b → (h : List ℕ) → standby_of s new_replica (cleared_all row) (set w 1 0) b h ≡ new_standby (places_of s.shape w b) (length row)
+  new : Rules s.shape w b → (h : Holds) → standby_of s new_replica (cleared_all row) (set w 1 0) b h ≡ new_standby (places_of s.shape w b) (length row)
   new rules h =
       (λ i. record {
         counters = counters_of new_replica;
         places = places_kept s.shape w (set w 1 0) b (clear_only w) i;
-        handles = all_free (bound_of latest) (room_all (cleared_all row) h) row h i;
+        handles = all_free (bound_of latest) (lengths_all (cleared_all row) h) row h i;
         pending = no-commits w (omega (arith, rules.room.words_long)) i;
       })
 

@@ -1,6 +1,7 @@
 -- What making a standby over a store says. Assumes nothing.
 use Rattle.std.specs.Prelude.{ℕ, ◌≡◌, true, false, List, length, set}
 use Rattle.model_frame.specs.Refusal
+use Rattle.standby_segments.specs.Segments.{Holds}
 use Rattle.standby_row.specs.declared.Bound.{Bound}
 use Rattle.standby_row.specs.Row.{cleared_all}
 use Rattle.store_areas.specs.StoreWord
@@ -20,7 +21,7 @@ new_replica = record { epoch = record { 0 = 0 }; connections = 0; promoted = 0; 
 -- just that each record is free
 pub record MadeNew (s : Settings) (c' : Replica) (row row' : List Bound) (w w' b : List ℕ) (a : Answer) : Type 0 where
   pub done : a ≡ is_done
-  pub is : (h : List ℕ) → standby_of s c' row' w' b h ≡ new_standby (places_of s.shape w b) (length row)
+  pub is : (h : Holds) → standby_of s c' row' w' b h ≡ new_standby (places_of s.shape w b) (length row)
   pub allowed : (h : List ℕ) → allowed_all s row' w' b h ≡ true
   pub words : w' ≡ set w StoreWord.pending 0
   pub freed : row' ≡ cleared_all row

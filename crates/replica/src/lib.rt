@@ -1,10 +1,11 @@
-// The standby's calls over the lent counters, the lent row of handles, the store's two areas and the hold areas (standby.rs, `Replica`); `replica_c` has them for C.
+// The standby's calls over the lent counters, the lent row of handles, the store's two areas, the hold areas and the ends of their segments (standby.rs, `Replica`); `replica_c` has them for C.
 // C lends the counters, the row and the areas, each apart; the six calls are names of their own that hand on to one function.
 #![tactic(auto)]
 
 ghost use Rattle.std.specs.Prelude.{◌≡◌, max};
 ghost use Rattle.base_flags.specs.Flag.{is_set};
 ghost use Rattle.model_standby.specs.State.{on_frame_held, on_frame, flush, disconnected_from, promote, promote_unchecked};
+ghost use Rattle.standby_segments.specs.Segments.{hold_areas};
 ghost use Rattle.standby_step.specs.Calls.{Called};
 ghost use Rattle.standby_call.specs.Call.{call_of};
 ghost use Rattle.replica.specs.Making.{new_replica, MadeOver};
@@ -31,15 +32,16 @@ fn on_call(
     words: &mut [u64],
     bytes: &mut [u8],
     holds: &mut [u8],
+    ends: &mut [u64],
     frame: &[u8],
     settings: Settings,
     call: Call,
 ) -> Answer
-    ensures { Called settings (call_of call frame.now) counters.old counters.new row.old row.new words.old words.new bytes.old bytes.new holds.old holds.new result }
+    ensures { Called settings (call_of call frame.now) counters.old counters.new row.old row.new words.old words.new bytes.old bytes.new (hold_areas holds.old ends.old) (hold_areas holds.new ends.new) result }
 {
     let handle = standby_call::sought_by(frame, call);
     let used = places_in_use(words);
-    let room = standby_batch_due::room_of(holds, row.len());
+    let room = standby_batch_due::room_of(holds.len(), row.len());
     let lookup = standby_row::find(row, handle, used, room);
     let standing = Standing {
         settings,
@@ -51,6 +53,7 @@ fn on_call(
         words,
         bytes,
         holds,
+        ends,
     };
     let outcome = standby_call::run(standing, &mut areas, frame, call);
     outcome.action.apply(row);
@@ -65,13 +68,16 @@ pub fn on_frame_held(
     words: &mut [u64],
     bytes: &mut [u8],
     holds: &mut [u8],
+    ends: &mut [u64],
     frame: &[u8],
     settings: Settings,
 ) -> Answer
-    ensures { Called settings (on_frame_held frame.now) counters.old counters.new row.old row.new words.old words.new bytes.old bytes.new holds.old holds.new result }
+    ensures { Called settings (on_frame_held frame.now) counters.old counters.new row.old row.new words.old words.new bytes.old bytes.new (hold_areas holds.old ends.old) (hold_areas holds.new ends.new) result }
 {
     let call = Call::OnFrameHeld;
-    on_call(counters, row, words, bytes, holds, frame, settings, call)
+    on_call(
+        counters, row, words, bytes, holds, ends, frame, settings, call,
+    )
 }
 
 // A frame, and then the pending commits.
@@ -81,13 +87,16 @@ pub fn on_frame(
     words: &mut [u64],
     bytes: &mut [u8],
     holds: &mut [u8],
+    ends: &mut [u64],
     frame: &[u8],
     settings: Settings,
 ) -> Answer
-    ensures { Called settings (on_frame frame.now) counters.old counters.new row.old row.new words.old words.new bytes.old bytes.new holds.old holds.new result }
+    ensures { Called settings (on_frame frame.now) counters.old counters.new row.old row.new words.old words.new bytes.old bytes.new (hold_areas holds.old ends.old) (hold_areas holds.new ends.new) result }
 {
     let call = Call::OnFrame;
-    on_call(counters, row, words, bytes, holds, frame, settings, call)
+    on_call(
+        counters, row, words, bytes, holds, ends, frame, settings, call,
+    )
 }
 
 // Runs the pending commits of a connection.
@@ -97,13 +106,24 @@ pub fn flush(
     words: &mut [u64],
     bytes: &mut [u8],
     holds: &mut [u8],
+    ends: &mut [u64],
     connection: u64,
     settings: Settings,
 ) -> Answer
-    ensures { Called settings (flush connection) counters.old counters.new row.old row.new words.old words.new bytes.old bytes.new holds.old holds.new result }
+    ensures { Called settings (flush connection) counters.old counters.new row.old row.new words.old words.new bytes.old bytes.new (hold_areas holds.old ends.old) (hold_areas holds.new ends.new) result }
 {
     let call = Call::Flush { connection };
-    on_call(counters, row, words, bytes, holds, &[], settings, call)
+    on_call(
+        counters,
+        row,
+        words,
+        bytes,
+        holds,
+        ends,
+        &[],
+        settings,
+        call,
+    )
 }
 
 // The connection is gone: with it go the bindings and the pending commits.
@@ -113,13 +133,24 @@ pub fn disconnected_from(
     words: &mut [u64],
     bytes: &mut [u8],
     holds: &mut [u8],
+    ends: &mut [u64],
     connection: u64,
     settings: Settings,
 ) -> Answer
-    ensures { Called settings (disconnected_from connection) counters.old counters.new row.old row.new words.old words.new bytes.old bytes.new holds.old holds.new result }
+    ensures { Called settings (disconnected_from connection) counters.old counters.new row.old row.new words.old words.new bytes.old bytes.new (hold_areas holds.old ends.old) (hold_areas holds.new ends.new) result }
 {
     let call = Call::DisconnectedFrom { connection };
-    on_call(counters, row, words, bytes, holds, &[], settings, call)
+    on_call(
+        counters,
+        row,
+        words,
+        bytes,
+        holds,
+        ends,
+        &[],
+        settings,
+        call,
+    )
 }
 
 // Promotes a standby that was checked.
@@ -129,12 +160,23 @@ pub fn promote(
     words: &mut [u64],
     bytes: &mut [u8],
     holds: &mut [u8],
+    ends: &mut [u64],
     settings: Settings,
 ) -> Answer
-    ensures { Called settings promote counters.old counters.new row.old row.new words.old words.new bytes.old bytes.new holds.old holds.new result }
+    ensures { Called settings promote counters.old counters.new row.old row.new words.old words.new bytes.old bytes.new (hold_areas holds.old ends.old) (hold_areas holds.new ends.new) result }
 {
     let call = Call::Promote;
-    on_call(counters, row, words, bytes, holds, &[], settings, call)
+    on_call(
+        counters,
+        row,
+        words,
+        bytes,
+        holds,
+        ends,
+        &[],
+        settings,
+        call,
+    )
 }
 
 // Promotes a standby, checked or not.
@@ -144,12 +186,23 @@ pub fn promote_unchecked(
     words: &mut [u64],
     bytes: &mut [u8],
     holds: &mut [u8],
+    ends: &mut [u64],
     settings: Settings,
 ) -> Answer
-    ensures { Called settings promote_unchecked counters.old counters.new row.old row.new words.old words.new bytes.old bytes.new holds.old holds.new result }
+    ensures { Called settings promote_unchecked counters.old counters.new row.old row.new words.old words.new bytes.old bytes.new (hold_areas holds.old ends.old) (hold_areas holds.new ends.new) result }
 {
     let call = Call::PromoteUnchecked;
-    on_call(counters, row, words, bytes, holds, &[], settings, call)
+    on_call(
+        counters,
+        row,
+        words,
+        bytes,
+        holds,
+        ends,
+        &[],
+        settings,
+        call,
+    )
 }
 
 // The counters of a standby that is new: no epoch yet, no connection, neither promoted nor checked.

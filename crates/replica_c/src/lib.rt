@@ -2,6 +2,7 @@
 #![tactic(auto)]
 
 ghost use Rattle.model_standby.specs.State.{on_frame_held, on_frame, flush, disconnected_from, promote, promote_unchecked};
+ghost use Rattle.standby_segments.specs.Segments.{hold_areas};
 ghost use Rattle.standby_step.specs.Calls.{Called};
 ghost use Rattle.replica.specs.Making.{MadeOver};
 
@@ -16,12 +17,13 @@ pub extern "C" fn on_frame_held(
     words: &mut [u64],
     bytes: &mut [u8],
     holds: &mut [u8],
+    ends: &mut [u64],
     frame: &[u8],
     settings: Settings,
 ) -> Answer
-    ensures { Called settings (on_frame_held frame.now) counters.old counters.new row.old row.new words.old words.new bytes.old bytes.new holds.old holds.new result }
+    ensures { Called settings (on_frame_held frame.now) counters.old counters.new row.old row.new words.old words.new bytes.old bytes.new (hold_areas holds.old ends.old) (hold_areas holds.new ends.new) result }
 {
-    replica::on_frame_held(counters, row, words, bytes, holds, frame, settings)
+    replica::on_frame_held(counters, row, words, bytes, holds, ends, frame, settings)
 }
 
 // A frame, and then the pending commits.
@@ -32,12 +34,13 @@ pub extern "C" fn on_frame(
     words: &mut [u64],
     bytes: &mut [u8],
     holds: &mut [u8],
+    ends: &mut [u64],
     frame: &[u8],
     settings: Settings,
 ) -> Answer
-    ensures { Called settings (on_frame frame.now) counters.old counters.new row.old row.new words.old words.new bytes.old bytes.new holds.old holds.new result }
+    ensures { Called settings (on_frame frame.now) counters.old counters.new row.old row.new words.old words.new bytes.old bytes.new (hold_areas holds.old ends.old) (hold_areas holds.new ends.new) result }
 {
-    replica::on_frame(counters, row, words, bytes, holds, frame, settings)
+    replica::on_frame(counters, row, words, bytes, holds, ends, frame, settings)
 }
 
 // Runs the pending commits of a connection.
@@ -48,12 +51,15 @@ pub extern "C" fn flush(
     words: &mut [u64],
     bytes: &mut [u8],
     holds: &mut [u8],
+    ends: &mut [u64],
     connection: u64,
     settings: Settings,
 ) -> Answer
-    ensures { Called settings (flush connection) counters.old counters.new row.old row.new words.old words.new bytes.old bytes.new holds.old holds.new result }
+    ensures { Called settings (flush connection) counters.old counters.new row.old row.new words.old words.new bytes.old bytes.new (hold_areas holds.old ends.old) (hold_areas holds.new ends.new) result }
 {
-    replica::flush(counters, row, words, bytes, holds, connection, settings)
+    replica::flush(
+        counters, row, words, bytes, holds, ends, connection, settings,
+    )
 }
 
 // The connection is gone: with it go the bindings and the pending commits.
@@ -64,12 +70,15 @@ pub extern "C" fn disconnected_from(
     words: &mut [u64],
     bytes: &mut [u8],
     holds: &mut [u8],
+    ends: &mut [u64],
     connection: u64,
     settings: Settings,
 ) -> Answer
-    ensures { Called settings (disconnected_from connection) counters.old counters.new row.old row.new words.old words.new bytes.old bytes.new holds.old holds.new result }
+    ensures { Called settings (disconnected_from connection) counters.old counters.new row.old row.new words.old words.new bytes.old bytes.new (hold_areas holds.old ends.old) (hold_areas holds.new ends.new) result }
 {
-    replica::disconnected_from(counters, row, words, bytes, holds, connection, settings)
+    replica::disconnected_from(
+        counters, row, words, bytes, holds, ends, connection, settings,
+    )
 }
 
 // Promotes a standby that was checked.
@@ -80,11 +89,12 @@ pub extern "C" fn promote(
     words: &mut [u64],
     bytes: &mut [u8],
     holds: &mut [u8],
+    ends: &mut [u64],
     settings: Settings,
 ) -> Answer
-    ensures { Called settings promote counters.old counters.new row.old row.new words.old words.new bytes.old bytes.new holds.old holds.new result }
+    ensures { Called settings promote counters.old counters.new row.old row.new words.old words.new bytes.old bytes.new (hold_areas holds.old ends.old) (hold_areas holds.new ends.new) result }
 {
-    replica::promote(counters, row, words, bytes, holds, settings)
+    replica::promote(counters, row, words, bytes, holds, ends, settings)
 }
 
 // Promotes a standby, checked or not.
@@ -95,11 +105,12 @@ pub extern "C" fn promote_unchecked(
     words: &mut [u64],
     bytes: &mut [u8],
     holds: &mut [u8],
+    ends: &mut [u64],
     settings: Settings,
 ) -> Answer
-    ensures { Called settings promote_unchecked counters.old counters.new row.old row.new words.old words.new bytes.old bytes.new holds.old holds.new result }
+    ensures { Called settings promote_unchecked counters.old counters.new row.old row.new words.old words.new bytes.old bytes.new (hold_areas holds.old ends.old) (hold_areas holds.new ends.new) result }
 {
-    replica::promote_unchecked(counters, row, words, bytes, holds, settings)
+    replica::promote_unchecked(counters, row, words, bytes, holds, ends, settings)
 }
 
 // Makes a standby over a store: new counters, no pending commit, every record of the row freed.

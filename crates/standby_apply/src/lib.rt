@@ -13,8 +13,11 @@ ghost use Rattle.store_areas.specs.Areas.{Changed, place_at, used_of};
 ghost use Rattle.store_areas.specs.Same.{SameAreas};
 ghost use Rattle.store_place.specs.PlaceByte;
 
+mod held;
+
 use frame_op::Op;
 use frame_reader::Reader;
+pub use held::apply_held_at;
 use standby_changes::Changes;
 use store_areas::Store;
 

@@ -12,13 +12,13 @@ use Rattle.std.specs.Prelude as prelude
 use Rattle.base_laws.proofs.Lists.{both}
 use Rattle.base_refusals.specs.declared.Refusal.{Refusal}
 use Rattle.base_refusals.specs.Numbers.{number_of}
-use Rattle.model_frame.specs.Bytes.{write}
 use Rattle.model_frame.specs.Frame.{Change, AppRecord, commit, whole, last_whole, batch, nack, stale_epoch, diverged}
 use Rattle.model_frame.specs.Frame as the_frame
 use Rattle.model_frame.specs.Parse.{is_empty}
 use Rattle.model_frame.specs.Sizes.{sizes}
 use Rattle.frame_fields.specs.declared.CommitNumber.{CommitNumber}
 use Rattle.frame_fields.specs.declared.Epoch.{Epoch}
+use Rattle.standby_segments.specs.Segments.{Holds, with_run}
 use Rattle.standby_row.specs.declared.Bound.{Bound as BoundRecord}
 use Rattle.standby_row.specs.declared.lookup.Lookup.{Lookup}
 use Rattle.standby_row.specs.Row.{own_record}
@@ -36,7 +36,7 @@ use Rattle.model_standby.specs.Core.{leave, store, Core, CoreResult, core_says, 
 use Rattle.standby_part.specs.declared.PartResult.{PartResult}
 use Rattle.standby_part.specs.State.{bound_of, core_at}
 use Rattle.standby_part.specs.Part.{part_refusal, is_accepted, stored_in, told_by, action_by, result_of, StoredIs}
-use Rattle.standby_batch_handle.specs.Handling.{follows_of, found_of, bound_in, Sound, hold_area_after, handle_change, StoredFor, HandleIs}
+use Rattle.standby_batch_handle.specs.Handling.{follows_of, is_whole, found_of, bound_in, Sound, hold_area_after, handle_change, StoredFor, HandleIs}
 use Rattle.standby_step.specs.Steps.{is_found}
 use Rattle.standby_counters.specs.declared.Replica.{Replica}
 use Rattle.standby_state.specs.declared.Settings.{Settings}
@@ -81,7 +81,7 @@ module _ (h n : ℕ) where
   told_reply (PartResult.Diverged x) = refl
   told_reply (PartResult.Accepted x) = refl
 
-  told_stores : (version : ℕ) (area : List ℕ) (c : Replica) (seen : Lookup) (m : CommitNumber) (d : PartResult) → is_store (action_by version h area d) ≡ stores (settled_of c seen d h m).action
+  told_stores : (version : ℕ) (area : Holds) (c : Replica) (seen : Lookup) (m : CommitNumber) (d : PartResult) → is_store (action_by version h area d) ≡ stores (settled_of c seen d h m).action
   told_stores version area c seen m (PartResult.Refused e) = refl
   told_stores version area c seen m (PartResult.RefusedHolding e x) = refl
   told_stores version area c seen m (PartResult.Diverged x) = refl
@@ -89,9 +89,9 @@ module _ (h n : ℕ) where
 
 -- ---- the ways that leave all as it was
 
-module _ (s : Settings) (c : Replica) (seen : Lookup) (h : ℕ) (e : Epoch) (n : CommitNumber) (part : the_frame.Part) (cs : List Change) (apps : List AppRecord) (w b area : List ℕ) (rules : Rules s.shape w b) where
+module _ (s : Settings) (c : Replica) (seen : Lookup) (h : ℕ) (e : Epoch) (n : CommitNumber) (part : the_frame.Part) (cs : List Change) (apps : List AppRecord) (w b : List ℕ) (area : Holds) (rules : Rules s.shape w b) where
   abbrev L : state.Settings
-  L = settings_of s (length area)
+  L = settings_of s (length area.bytes)
 
   abbrev K : Core
   K = core_at (counters_of c) s.shape w b
@@ -105,7 +105,7 @@ module _ (s : Settings) (c : Replica) (seen : Lookup) (h : ℕ) (e : Epoch) (n :
   abbrev Writes : Bool → Bool → Option HoldWrite
   Writes t u = cond (not t || u) none (writes_part L h F n.0 part cs)
 
-  abbrev Is : List ℕ → List ℕ → List ℕ → Outcome → Type 0
+  abbrev Is : List ℕ → List ℕ → Holds → Outcome → Type 0
   Is w' b' area' r = BatchIs s c seen h e.0 n.0 part cs apps w w' b b' area area' r
 
   tests : core_batch L K F h e.0 n.0 part cs apps ≡ Goes (is_empty apps) (ltb e.0 c.epoch.0)
@@ -123,7 +123,7 @@ module _ (s : Settings) (c : Replica) (seen : Lookup) (h : ℕ) (e : Epoch) (n :
         rules = rules;
         used = refl;
         store_after = none_changed s.shape h (own_record seen).place part w b off;
-        area_is = ap (λ (o : Option HoldWrite). hold_area_with o area) (sym ((λ j. Writes (p j) (q j)) ∙ none_written));
+        area_is = ap (λ (o : Option HoldWrite). hold_area_with (is_whole part) o area) (sym ((λ j. Writes (p j) (q j)) ∙ none_written));
         exact = is-exact;
       })
 
@@ -143,7 +143,7 @@ module _ (s : Settings) (c : Replica) (seen : Lookup) (h : ℕ) (e : Epoch) (n :
   bound_is true = refl
   bound_is false = refl
 
-  module _ (p : is_empty apps ≡ true) (high : ltb e.0 c.epoch.0 ≡ false) {found : Bool} (found_is : found ≡ found_for seen h) {w' b' area' run : List ℕ} {d : PartResult}
+  module _ (p : is_empty apps ≡ true) (high : ltb e.0 c.epoch.0 ≡ false) {found : Bool} (found_is : found ≡ found_for seen h) {w' b' : List ℕ} {area' : Holds} {run : List ℕ} {d : PartResult}
       (g : HandleIs latest s.shape h (Own found) n.0 part cs w w' b b' area area' d)
       (written : area' ≡ hold_area_after latest (Own found) n.0 part run area (part_refusal d)) (bytes : run ≡ held_bytes cs)
       (kept : found ≡ true → RecordRules seen w area) where
@@ -220,7 +220,7 @@ module _ (s : Settings) (c : Replica) (seen : Lookup) (h : ℕ) (e : Epoch) (n :
             no_change whole = refl
             no_change last_whole = refl
 
-    put_fits : (a : Answer) (x : BoundRecord) → found ≡ true → StoredIs latest (own_record seen) area area' x → Puts seen (get_or w' 0 0) (length area) area' (storing (epoch_to c e) seen a h x).action
+    put_fits : (a : Answer) (x : BoundRecord) → found ≡ true → StoredIs latest (own_record seen) area area' x → Puts seen (get_or w' 0 0) (length area.bytes) area' (storing (epoch_to c e) seen a h x).action
     put_fits a x f i =
         let k : RecordRules seen w area = kept f in
         record {
@@ -230,36 +230,36 @@ module _ (s : Settings) (c : Replica) (seen : Lookup) (h : ℕ) (e : Epoch) (n :
           slot_len = i.len k.held_within;
         }
 
-    puts_in : (q : PartResult) → (stores (X q).action ≡ true → found ≡ true) → IfSome (stored_in q) (StoredIs latest (own_record seen) area area') → Puts seen (get_or w' 0 0) (length area) area' (X q).action
+    puts_in : (q : PartResult) → (stores (X q).action ≡ true → found ≡ true) → IfSome (stored_in q) (StoredIs latest (own_record seen) area area') → Puts seen (get_or w' 0 0) (length area.bytes) area' (X q).action
     puts_in (PartResult.Refused e₁) f i = tt
     puts_in (PartResult.RefusedHolding e₁ x) f i = put_fits (is_refused (number_of e₁)) x (f refl) i
     puts_in (PartResult.Diverged x) f i = put_fits (is_nack h 2) x (f refl) i
     puts_in (PartResult.Accepted x) f i = put_fits (is_ack h n) x (f refl) i
 
-    puts_none : (q : PartResult) → stores (X q).action ≡ false → Puts seen (get_or w' 0 0) (length area) area' (X q).action
+    puts_none : (q : PartResult) → stores (X q).action ≡ false → Puts seen (get_or w' 0 0) (length area.bytes) area' (X q).action
     puts_none (PartResult.Refused e₁) e = tt
     puts_none (PartResult.RefusedHolding e₁ x) e = absurd (true≢false e)
     puts_none (PartResult.Diverged x) e = absurd (true≢false e)
     puts_none (PartResult.Accepted x) e = absurd (true≢false e)
 
-    put_so : Puts seen (get_or w' 0 0) (length area) area' (X d).action
+    put_so : Puts seen (get_or w' 0 0) (length area.bytes) area' (X d).action
     put_so = go found refl g.slot
       where
-        go : (t : Bool) → found ≡ t → StoredFor latest (Own t) area area' (stored_in d) → Puts seen (get_or w' 0 0) (length area) area' (X d).action
+        go : (t : Bool) → found ≡ t → StoredFor latest (Own t) area area' (stored_in d) → Puts seen (get_or w' 0 0) (length area.bytes) area' (X d).action
         go true f i = puts_in d stored_found i
         go false f i = puts_none d (none_stored f)
 
     -- ---- the hold area
 
-    abbrev New : Bool → List ℕ
-    New t = cond t (write area (sizes B.held) run) area
+    abbrev New : Bool → Bool → Holds
+    New closes t = cond t (with_run closes (sizes B.held) run area) area
 
     abbrev Put : HoldWrite
     Put = record { handle = h; offset = sizes B.held; bytes = held_bytes cs }
 
-    put_is : (t : Bool) → New t ≡ hold_area_with (cond t (some Put) none) area
-    put_is true = ap (write area (sizes B.held)) bytes
-    put_is false = refl
+    put_is : (closes t : Bool) → New closes t ≡ hold_area_with closes (cond t (some Put) none) area
+    put_is closes true = ap (λ (r : List ℕ). with_run closes (sizes B.held) r area) bytes
+    put_is closes false = refl
 
     answered : found ≡ true → is_reply (core_handle L K' h (some B) n.0 part cs).answer ≡ eqb (part_refusal d) 0
     answered f =
@@ -267,41 +267,41 @@ module _ (s : Settings) (c : Replica) (seen : Lookup) (h : ℕ) (e : Epoch) (n :
         ∙ ap (λ (r : CoreResult). is_reply r.answer) (sym handled) ∙ told_reply h n.0 d
 
     -- of a Whole or LastWhole that is found
-    held_area : found ≡ true → (follows_of (own_record seen) n.0 ≡ true → eqb (part_refusal d) 0 ≡ Passes L K' h B n.0 cs)
-        → cond (follows_of (own_record seen) n.0 && true) (New (eqb (part_refusal d) 0)) area ≡ hold_area_with (cond (follows_of (own_record seen) n.0 && Passes L K' h B n.0 cs) (some Put) none) area
-    held_area f passes = go (follows_of (own_record seen) n.0) refl
+    held_area : (closes : Bool) → found ≡ true → (follows_of (own_record seen) n.0 ≡ true → eqb (part_refusal d) 0 ≡ Passes L K' h B n.0 cs)
+        → cond (follows_of (own_record seen) n.0 && true) (New closes (eqb (part_refusal d) 0)) area ≡ hold_area_with closes (cond (follows_of (own_record seen) n.0 && Passes L K' h B n.0 cs) (some Put) none) area
+    held_area closes f passes = go (follows_of (own_record seen) n.0) refl
       where
-        go : (t : Bool) → follows_of (own_record seen) n.0 ≡ t → cond (t && true) (New (eqb (part_refusal d) 0)) area ≡ hold_area_with (cond (t && Passes L K' h B n.0 cs) (some Put) none) area
-        go true q = ap New (passes q) ∙ put_is (Passes L K' h B n.0 cs)
+        go : (t : Bool) → follows_of (own_record seen) n.0 ≡ t → cond (t && true) (New closes (eqb (part_refusal d) 0)) area ≡ hold_area_with closes (cond (t && Passes L K' h B n.0 cs) (some Put) none) area
+        go true q = ap (New closes) (passes q) ∙ put_is closes (Passes L K' h B n.0 cs)
         go false q = refl
 
-    off_held : (t : Bool) → cond (t && false) (New (eqb (part_refusal d) 0)) area ≡ area
+    off_held : (t : Bool) → cond (t && false) (New false (eqb (part_refusal d) 0)) area ≡ area
     off_held true = refl
     off_held false = refl
 
-    area_found : (q : the_frame.Part) → part ≡ q → found ≡ true → hold_area_after latest (Some (own_record seen)) n.0 q run area (part_refusal d) ≡ hold_area_with (writes_part L h (some B) n.0 q cs) area
+    area_found : (q : the_frame.Part) → part ≡ q → found ≡ true → hold_area_after latest (Some (own_record seen)) n.0 q run area (part_refusal d) ≡ hold_area_with (is_whole q) (writes_part L h (some B) n.0 q cs) area
     area_found commit q f = off_held (follows_of (own_record seen) n.0)
     area_found whole q f =
-        held_area f (λ t. sym (answered f) ∙ ap (λ (x : the_frame.Part). is_reply (core_handle L K' h (some B) n.0 x cs).answer) q ∙ whole_passes L K' h B n.0 cs t)
+        held_area true f (λ t. sym (answered f) ∙ ap (λ (x : the_frame.Part). is_reply (core_handle L K' h (some B) n.0 x cs).answer) q ∙ whole_passes L K' h B n.0 cs t)
     area_found last_whole q f =
-        held_area f (λ t. sym (answered f) ∙ ap (λ (x : the_frame.Part). is_reply (core_handle L K' h (some B) n.0 x cs).answer) q ∙ last_passes L K' h B n.0 cs t)
+        held_area false f (λ t. sym (answered f) ∙ ap (λ (x : the_frame.Part). is_reply (core_handle L K' h (some B) n.0 x cs).answer) q ∙ last_passes L K' h B n.0 cs t)
 
-    none_found : (q : the_frame.Part) → area ≡ hold_area_with (writes_part L h none n.0 q cs) area
+    none_found : (q : the_frame.Part) → area ≡ hold_area_with (is_whole q) (writes_part L h none n.0 q cs) area
     none_found commit = refl
     none_found whole = refl
     none_found last_whole = refl
 
-    area_part : area' ≡ hold_area_with (writes_part L h (found_of latest found (own_record seen) area) n.0 part cs) area
+    area_part : area' ≡ hold_area_with (is_whole part) (writes_part L h (found_of latest found (own_record seen) area) n.0 part cs) area
     area_part = written ∙ go found refl
       where
-        go : (t : Bool) → found ≡ t → hold_area_after latest (Own t) n.0 part run area (part_refusal d) ≡ hold_area_with (writes_part L h (found_of latest t (own_record seen) area) n.0 part cs) area
+        go : (t : Bool) → found ≡ t → hold_area_after latest (Own t) n.0 part run area (part_refusal d) ≡ hold_area_with (is_whole part) (writes_part L h (found_of latest t (own_record seen) area) n.0 part cs) area
         go true f = area_found part refl f
         go false f = none_found part
 
-    area_whole : area' ≡ hold_area_with (writes_frame L (counters_of c) F (batch h e.0 n.0 part cs apps)) area
+    area_whole : area' ≡ hold_area_with (is_whole part) (writes_frame L (counters_of c) F (batch h e.0 n.0 part cs apps)) area
     area_whole =
-        area_part ∙ ap (λ (t : Bool). hold_area_with (writes_part L h (found_of latest t (own_record seen) area) n.0 part cs) area) found_is
-        ∙ ap (λ (o : Option HoldWrite). hold_area_with o area) (sym (λ j. Writes (p j) (high j)))
+        area_part ∙ ap (λ (t : Bool). hold_area_with (is_whole part) (writes_part L h (found_of latest t (own_record seen) area) n.0 part cs) area) found_is
+        ∙ ap (λ (o : Option HoldWrite). hold_area_with (is_whole part) o area) (sym (λ j. Writes (p j) (high j)))
 
     handled_is : {r : Outcome} {c' : Replica} → c' ≡ epoch_to c e → r ≡ settled_of c' seen d h n → Is w' b' area' r
     handled_is e₁ e₂ =
@@ -327,7 +327,7 @@ module _ (s : Settings) (c : Replica) (seen : Lookup) (h : ℕ) (e : Epoch) (n :
 
 -- ---- what the handle asks
 
-module _ (seen : Lookup) (h : ℕ) (w area : List ℕ) (kept : is_found seen ≡ true → RecordRules seen w area) where
+module _ (seen : Lookup) (h : ℕ) (w : List ℕ) (area : Holds) (kept : is_found seen ≡ true → RecordRules seen w area) where
   pub kept_of : found_for seen h ≡ true → RecordRules seen w area
   kept_of t = kept (both (is_found seen) (eqb (own_record seen).handle h) t).0
 

@@ -5,11 +5,11 @@ use Rattle.std.specs.Prelude as prelude
 use Rattle.std.proofs.Math.Option.{Option, none, some}
 use Rattle.base_refusals.specs.Numbers.{number_of}
 use Rattle.model_frame.specs.ReasonByte
-use Rattle.model_frame.specs.Bytes.{write}
 use Rattle.model_frame.specs.Frame.{Change, AppRecord, batch}
 use Rattle.model_frame.specs.Frame as the_frame
 use Rattle.frame_fields.specs.declared.CommitNumber.{CommitNumber}
 use Rattle.frame_fields.specs.declared.Epoch.{Epoch}
+use Rattle.standby_segments.specs.Segments.{Holds, with_run}
 use Rattle.standby_row.specs.declared.Bound.{Bound as BoundRecord}
 use Rattle.standby_row.specs.declared.lookup.Lookup.{Lookup}
 use Rattle.standby_row.specs.Row.{own_record}
@@ -22,7 +22,7 @@ use Rattle.model_standby.specs.Hold.{HoldWrite, writes_frame}
 use Rattle.model_standby.specs.Core.{Action, leave, store, core_batch}
 use Rattle.standby_part.specs.declared.PartResult.{PartResult}
 use Rattle.standby_part.specs.State.{bound_of, core_at}
-use Rattle.standby_batch_handle.specs.Handling.{found_of}
+use Rattle.standby_batch_handle.specs.Handling.{is_whole, found_of}
 use Rattle.standby_counters.specs.declared.Replica.{Replica}
 use Rattle.standby_state.specs.declared.Settings.{Settings}
 use Rattle.standby_state.specs.declared.Answer.{Answer}
@@ -56,44 +56,44 @@ settled_of c seen (PartResult.Diverged x) h n = storing c seen (is_nack h Reason
 settled_of c seen (PartResult.Accepted x) h n = storing c seen (is_ack h n) h x
 
 -- the record found names a place in use, and holds no more than its area has
-pub record RecordRules (seen : Lookup) (w area : List ℕ) : Type 0 where
+pub record RecordRules (seen : Lookup) (w : List ℕ) (area : Holds) : Type 0 where
   pub place_used : (own_record seen).place < used_of w
-  pub held_within : (own_record seen).held_len ≤ length area
+  pub held_within : (own_record seen).held_len ≤ length area.bytes
 
--- the hold area with what is written there
-abbrev pub hold_area_with : Option HoldWrite → List ℕ → List ℕ
-hold_area_with none area = area
-hold_area_with (some x) area = write area x.offset x.bytes
+-- the hold area with what is written there, of a Whole or not
+abbrev pub hold_area_with : Bool → Option HoldWrite → Holds → Holds
+hold_area_with closes none area = area
+hold_area_with closes (some x) area = with_run closes x.offset x.bytes area
 
-abbrev pub found_at : Lookup → ℕ → List ℕ → Option Bound
+abbrev pub found_at : Lookup → ℕ → Holds → Option Bound
 found_at seen h area = found_of latest (found_for seen h) (own_record seen) area
 
 -- the record that is put, over the hold area of its place
-abbrev pub put_in : List ℕ → RowAction → Action
+abbrev pub put_in : Holds → RowAction → Action
 put_in area RowAction.Leave = leave
 put_in area RowAction.Clear = leave
 put_in area (RowAction.Store at x) = store x.handle (bound_of latest x area)
 put_in area (RowAction.Rebind freed at x) = leave
 
 -- the row stays as it was, or the record that is put fits it; nothing else is done to it
-abbrev pub Puts : Lookup → ℕ → ℕ → List ℕ → RowAction → Type 0
+abbrev pub Puts : Lookup → ℕ → ℕ → Holds → RowAction → Type 0
 Puts seen used room area RowAction.Leave = Unit
 Puts seen used room area RowAction.Clear = ⊥
 Puts seen used room area (RowAction.Store at x) = Fits seen used room area at x
 Puts seen used room area (RowAction.Rebind freed at x) = ⊥
 
 -- equal to the definition
-pub record BatchIs (s : Settings) (c : Replica) (seen : Lookup) (h e n : ℕ) (part : the_frame.Part) (cs : List Change) (apps : List AppRecord) (w w' b b' area area' : List ℕ) (r : Outcome) : Type 0 where
+pub record BatchIs (s : Settings) (c : Replica) (seen : Lookup) (h e n : ℕ) (part : the_frame.Part) (cs : List Change) (apps : List AppRecord) (w w' b b' : List ℕ) (area area' : Holds) (r : Outcome) : Type 0 where
   pub is : record {
     core = core_at (counters_of r.replica) s.shape w' b';
     action = put_in area' r.action;
     answer = answer_of b' r.answer;
   }
-      ≡ core_batch (settings_of s (length area)) (core_at (counters_of c) s.shape w b) (found_at seen h area) h e n part cs apps
-  pub puts : Puts seen (used_of w') (length area) area' r.action
+      ≡ core_batch (settings_of s (length area.bytes)) (core_at (counters_of c) s.shape w b) (found_at seen h area) h e n part cs apps
+  pub puts : Puts seen (used_of w') (length area.bytes) area' r.action
   pub stored : stores r.action ≡ true → found_for seen h ≡ true
   pub rules : Rules s.shape w' b'
   pub used : used_of w' ≡ used_of w
   pub store_after : StoreAfter s.shape (batch_change h (own_record seen).place part (accepted (answer_of b' r.answer))) w w' b b'
-  pub area_is : area' ≡ hold_area_with (writes_frame (settings_of s (length area)) (counters_of c) (found_at seen h area) (batch h e n part cs apps)) area
+  pub area_is : area' ≡ hold_area_with (is_whole part) (writes_frame (settings_of s (length area.bytes)) (counters_of c) (found_at seen h area) (batch h e n part cs apps)) area
   pub exact : Exact b' r.answer

@@ -8,6 +8,7 @@ ghost use Rattle.model_frame.specs.Parse.{is_empty};
 ghost use Rattle.model_frame.specs.Reading.{read_change, read_app_record};
 ghost use Rattle.frame_op.specs.Answers.{run_of, HasLength};
 ghost use Rattle.frame_fields.specs.Answers.{part_of};
+ghost use Rattle.standby_segments.specs.Segments.{hold_areas};
 ghost use Rattle.store_areas.specs.Areas.{Rules};
 ghost use Rattle.standby_pending.specs.Pending.{count_of};
 ghost use Rattle.standby_step.specs.Steps.{is_found};
@@ -84,14 +85,15 @@ pub fn on_batch(
     words: &mut [u64],
     bytes: &mut [u8],
     area: &mut [u8],
+    ends: &mut [u64],
     frame: &[u8],
     batch: Batch,
 ) -> Outcome
     requires rules { Rules standing.settings.shape words.old bytes.old }
     requires words_bound { count_of words.old < 64 }
-    requires record_rules { is_found standing.lookup ≡ true → RecordRules standing.lookup words.old area.old }
+    requires record_rules { is_found standing.lookup ≡ true → RecordRules standing.lookup words.old (hold_areas area.old ends.old) }
     requires has_length { HasLength latest frame.now batch.ops }
-    ensures { BatchIs standing.settings standing.counters standing.lookup batch.handle batch.epoch.0 batch.commit_no.0 (part_of batch.part) (run_of (read_change latest) frame.now batch.ops) (run_of read_app_record frame.now batch.app_records) words.old words.new bytes.old bytes.new area.old area.new result }
+    ensures { BatchIs standing.settings standing.counters standing.lookup batch.handle batch.epoch.0 batch.commit_no.0 (part_of batch.part) (run_of (read_change latest) frame.now batch.ops) (run_of read_app_record frame.now batch.app_records) words.old words.new bytes.old bytes.new (hold_areas area.old ends.old) (hold_areas area.new ends.new) result }
 {
     let Standing {
         settings,
@@ -116,6 +118,7 @@ pub fn on_batch(
         &changes,
         &mut store,
         area,
+        ends,
         handle,
         bound_for(lookup, handle),
         batch.commit_no,

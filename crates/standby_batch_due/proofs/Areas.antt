@@ -7,9 +7,9 @@ use native.Mathlib.Omega.{arith}
 use native.Mathlib.Nat.{zero-add, suc-add, mul-zero, div-add-mod', mul_comm}
 use lib.ListN.{length, set, take, drop, length-set, take-append-drop}
 use lib.Seq.{sets, set-append_left, length-take-le}
-use lib.Dec.{eqb}
-use borrow.Author.Tests.{eqb-false}
-use borrow.Rule.Slice.PartMut.{mid_of, post_of, put_mid}
+use lib.Dec.{eqb, ltb}
+use borrow.Author.Tests.{eqb-false, ltb-true, ltb-false}
+use borrow.Rule.Slice.PartMut.{mid_of, post_of, put_mid, put_same}
 use Rattle.model_frame.specs.Bytes.{write}
 use Rattle.std.specs.Prelude.{Some, None}
 use Rattle.std.specs.Prelude as prelude
@@ -17,7 +17,7 @@ use Rattle.standby_row.specs.declared.lookup.Found.{Found}
 use Rattle.standby_row.specs.declared.lookup.Lookup.{Lookup}
 use Rattle.standby_row.specs.Row.{at_or}
 use Rattle.store_areas.proofs.Lists.{inside}
-use Rattle.standby_step.specs.Steps.{room_in}
+use Rattle.standby_step.specs.Steps.{room_of}
 use Rattle.standby_batch_due.specs.DueBatch.{spot_in}
 
 -- ---- where they stand
@@ -29,17 +29,17 @@ spot_low seen any = go seen.own refl
     go None e = any
     go (Some f) e = seen.inside f e
 
--- the area of the record found lies within the bytes; so does the first one
-pub within : (seen : Lookup) (l : List ℕ) → spot_in seen * room_in seen l + room_in seen l ≤ length l
-within seen l = go (eqb seen.len 0) refl
+-- the part of the record found lies within the area; so does the first one
+pub within : (seen : Lookup) (n : ℕ) → spot_in seen * room_of n seen.len + room_of n seen.len ≤ n
+within seen n = go (eqb seen.len 0) refl
   where
-    go : (t : Bool) → eqb seen.len 0 ≡ t → spot_in seen * cond t 0 (length l / seen.len) + cond t 0 (length l / seen.len) ≤ length l
+    go : (t : Bool) → eqb seen.len 0 ≡ t → spot_in seen * cond t 0 (n / seen.len) + cond t 0 (n / seen.len) ≤ n
     go true e = omega (arith, mul-zero (spot_in seen))
     go false e =
         let any : 0 < seen.len = positive seen.len (eqb-false seen.len 0 e) in
-        let most : spot_in seen * (length l / seen.len) + (length l / seen.len) ≤ seen.len * (length l / seen.len) = inside (length l / seen.len) (spot_in seen) seen.len (spot_low seen any) in
-        let whole : (length l / seen.len) * seen.len + length l % seen.len ≡ length l = div-add-mod' (length l) seen.len in
-        omega (arith, most, whole, mul_comm (length l / seen.len) seen.len)
+        let most : spot_in seen * (n / seen.len) + (n / seen.len) ≤ seen.len * (n / seen.len) = inside (n / seen.len) (spot_in seen) seen.len (spot_low seen any) in
+        let whole : (n / seen.len) * seen.len + n % seen.len ≡ n = div-add-mod' n seen.len in
+        omega (arith, most, whole, mul_comm (n / seen.len) seen.len)
       where
         positive : (n : ℕ) → (n ≡ 0 → ⊥) → 0 < n
         positive zero off = absurd (off refl)
@@ -71,3 +71,20 @@ write_part a k i l bs low fits =
     ∙ ap (λ (m : ℕ). sets (take a l ++ (mid_of a k l ++ post_of a k l)) (m + i) bs) (sym (length-take-le a l low))
     ∙ sets_past (take a l) (mid_of a k l ++ post_of a k l) bs i
     ∙ ap (λ (x : List ℕ). take a l ++ x) (sets_front bs (mid_of a k l) (post_of a k l) i fits))
+
+-- a word written in the part is written in the whole
+set_past : (l : List ℕ) (k v : ℕ) → length l ≤ k → set l k v ≡ l
+set_past [] k v h = refl
+set_past (x ∷ l) zero v h = absurd (none h)
+  where
+    none : suc (length l) ≤ 0 → ⊥
+    none h = omega arith
+set_past (x ∷ l) (suc k) v h = ap (λ (r : List ℕ). x ∷ r) (set_past l k v (omega arith))
+
+pub set_part : (a n k v : ℕ) (l : List ℕ) → a ≤ length l → put_mid a n l (set (mid_of a n l) k v) ≡ cond (ltb k (length (mid_of a n l))) (set l (a + k) v) l
+unfolding write
+set_part a n k v l low = go (ltb k (length (mid_of a n l))) refl
+  where
+    go : (t : Bool) → ltb k (length (mid_of a n l)) ≡ t → put_mid a n l (set (mid_of a n l) k v) ≡ cond t (set l (a + k) v) l
+    go true e = let less : k < length (mid_of a n l) = ltb-true k (length (mid_of a n l)) e in write_part a n k l (v ∷ []) low (omega arith)
+    go false e = ap (put_mid a n l) (set_past (mid_of a n l) k v (ltb-false k (length (mid_of a n l)) e)) ∙ put_same a n l

@@ -5,7 +5,7 @@ use mathlib.Core.Bool.{Bool, true, false, cond, not, ◌&&◌, ◌||◌, true≢
 use mathlib.Core.List.{List, [], ◌++◌}
 use mathlib.Core.Option.{Option, none, some}
 use native.Mathlib.Omega.{arith}
-use lib.ListN.{get_or, length}
+use lib.ListN.{get_or, length, set}
 use lib.Dec.{eqb, ltb, leb}
 use borrow.Author.Tests.{eq-eqb, ltb-false, leb-false}
 use borrow.Rule.Slice.PartMut.{mid_of, put_mid, put_same}
@@ -19,6 +19,8 @@ use Rattle.model_frame.proofs.Sizes.{changes_size}
 use Rattle.model_frame.proofs.Runs.{sizes_append}
 use Rattle.std.specs.Prelude.{Some, None}
 use Rattle.std.specs.Prelude as prelude
+use Rattle.standby_segments.specs.Segments.{Holds, hold_areas, Lengths, closed_ends, open_from, end_for}
+use Rattle.standby_handles.specs.Rows.{area_at}
 use Rattle.standby_row.specs.declared.Bound.{Bound as BoundRecord}
 use Rattle.standby_row.specs.declared.lookup.Found.{Found}
 use Rattle.standby_row.specs.declared.lookup.Lookup.{Lookup}
@@ -37,21 +39,21 @@ use Rattle.model_standby.specs.Standby.{follows, starts_with_reset, raised, max_
 use Rattle.model_standby.specs.Hold.{HoldWrite, held_bytes, held_passes, writes_at, writes_part, writes_frame}
 use Rattle.model_standby.specs.Core.{store, core_run, core_batch}
 use Rattle.standby_part.specs.State.{bound_of, record_for, core_at}
-use Rattle.standby_batch_handle.specs.Handling.{found_of}
+use Rattle.standby_batch_handle.specs.Handling.{is_whole, found_of}
 use Rattle.standby_counters.specs.declared.Replica.{Replica}
 use Rattle.standby_state.specs.declared.Settings.{Settings}
 use Rattle.standby_state.specs.declared.Outcome.{Outcome}
 use Rattle.standby_state.specs.declared.RowAction.{RowAction}
 use Rattle.standby_state.specs.Answers.{answer_of}
-use Rattle.standby_state.specs.Outcomes.{counters_of, settings_of, area_at, stores, action_for, Lands}
-use Rattle.standby_step.specs.Steps.{room_in, is_found, found_in, holds_after}
+use Rattle.standby_state.specs.Outcomes.{counters_of, settings_of, stores, action_for, Lands}
+use Rattle.standby_step.specs.Steps.{room_in, lengths_in, is_found, found_in, with_end, holds_after}
 use Rattle.standby_batch.specs.Batches.{put_in, found_for, hold_area_with, found_at, Puts, BatchIs}
 use Rattle.standby_batch_due.specs.DueBatch.{spot_in, due_batch, BatchIn}
-use Rattle.standby_batch_due.proofs.Areas.{within, write_part}
+use Rattle.standby_batch_due.proofs.Areas.{within, write_part, set_part}
 
 -- ---- what is done to the row fits it
 
-pub puts_lands : (seen : Lookup) (row : List BoundRecord) (used room : ℕ) (area : List ℕ) (a : RowAction) → Puts seen used room area a → Lands seen row used room area a
+pub puts_lands : (seen : Lookup) (row : List BoundRecord) (used room : ℕ) (area : Holds) (a : RowAction) → Puts seen used room area a → Lands seen row used room area a
 puts_lands seen row used room area RowAction.Leave p = tt
 puts_lands seen row used room area RowAction.Clear p = absurd p
 puts_lands seen row used room area (RowAction.Store at x) p = p
@@ -110,7 +112,7 @@ module _ (L : state.Settings) (h n : ℕ) (cs : List Change) where
 
 -- ---- the record found
 
-module _ (seen : Lookup) (h : ℕ) (l : List ℕ) where
+module _ (seen : Lookup) (h : ℕ) (l : Holds) where
   same_found : (is_found seen ≡ true → (own_record seen).handle ≡ h) → found_for seen h ≡ is_found seen
   same_found own = go (is_found seen) refl own
     where
@@ -118,23 +120,39 @@ module _ (seen : Lookup) (h : ℕ) (l : List ℕ) where
       go true f own = eq-eqb (own_record seen).handle h (own refl)
       go false f own = refl
 
-  found_is : (is_found seen ≡ true → (own_record seen).handle ≡ h) → found_at seen h (area_at (room_in seen l) (spot_in seen) l) ≡ found_in seen l
+  found_is : (is_found seen ≡ true → (own_record seen).handle ≡ h) → found_at seen h (area_at (lengths_in seen l) (spot_in seen) l) ≡ found_in seen l
   found_is own =
-      ap (λ (t : Bool). found_of latest t (own_record seen) (area_at (room_in seen l) (spot_in seen) l)) (same_found own) ∙ go seen.own
+      ap (λ (t : Bool). found_of latest t (own_record seen) (area_at (lengths_in seen l) (spot_in seen) l)) (same_found own) ∙ go seen.own
     where
-      go : (o : prelude.Option Found) → found_of latest (prelude.is_some o) (record_or_free o) (area_at (room_in seen l) (at_or o 0) l) ≡ found_of latest (prelude.is_some o) (record_or_free o) (area_at (room_in seen l) (at_or o seen.len) l)
+      go : (o : prelude.Option Found) → found_of latest (prelude.is_some o) (record_or_free o) (area_at (lengths_in seen l) (at_or o 0) l) ≡ found_of latest (prelude.is_some o) (record_or_free o) (area_at (lengths_in seen l) (at_or o seen.len) l)
       go (Some f) = refl
       go None = refl
 
-module _ (s : Settings) (c : Replica) (seen : Lookup) (h e n : ℕ) (part : the_frame.Part) (cs : List Change) (apps : List AppRecord) (w b l : List ℕ) {due : Bool} (due_is : due ≡ due_batch h w) {w1 : List ℕ} (ran : RanIf due s.shape b w w1) where
+module _ (s : Settings) (c : Replica) (seen : Lookup) (h e n : ℕ) (part : the_frame.Part) (cs : List Change) (apps : List AppRecord) (w b : List ℕ) (l : Holds) {due : Bool} (due_is : due ≡ due_batch h w) {w1 : List ℕ} (ran : RanIf due s.shape b w w1) where
+  abbrev E : Lengths
+  E = lengths_in seen l
+
   abbrev R : ℕ
-  R = room_in seen l
+  R = room_in seen l.bytes
 
   abbrev A : ℕ
   A = spot_in seen * R
 
-  abbrev P : List ℕ
-  P = area_at R (spot_in seen) l
+  abbrev N : ℕ
+  N = room_in seen l.ends
+
+  abbrev F : ℕ
+  F = spot_in seen * N
+
+  abbrev P : Holds
+  P = area_at E (spot_in seen) l
+
+  -- what is lent of the hold areas, and what they are with another part
+  abbrev Lent : ℕ → ℕ → ℕ → ℕ → Holds
+  Lent lo hi first last = hold_areas (mid_of lo (hi - lo) l.bytes) (mid_of first (last - first) l.ends)
+
+  abbrev With : ℕ → ℕ → ℕ → ℕ → Holds → Holds
+  With lo hi first last area = hold_areas (put_mid lo (hi - lo) l.bytes area.bytes) (put_mid first (last - first) l.ends area.ends)
 
   ran_is : core_at (counters_of c) s.shape w1 b ≡ core_run (due_batch h w) (core_at (counters_of c) s.shape w b)
   ran_is = (λ j. record { counters = counters_of c; places = ran.places j; pending = ran.pending j }) ∙ ap (λ (t : Bool). core_run t (core_at (counters_of c) s.shape w b)) due_is
@@ -142,12 +160,19 @@ module _ (s : Settings) (c : Replica) (seen : Lookup) (h e n : ℕ) (part : the_
   words_are : w1 ≡ cond (due_batch h w) (ran_words s.shape w) w
   words_are = ran.words ∙ ap (λ (t : Bool). cond t (ran_words s.shape w) w) due_is
 
-  module _ {w' b' area' : List ℕ} {r : Outcome} (size : length area' ≡ length (mid_of A (A + R - A) l)) (g : BatchIs s c seen h e n part cs apps w1 w' b b' P area' r) where
-    abbrev l' : List ℕ
-    l' = put_mid A (A + R - A) l area'
+  module _ {w' b' : List ℕ} {area' : Holds} {r : Outcome} (size : length area'.bytes ≡ length (mid_of A (A + R - A) l.bytes)) (long_ends : length area'.ends ≡ length (mid_of F (F + N - F) l.ends))
+      (g : BatchIs s c seen h e n part cs apps w1 w' b b' P area' r) where
+    abbrev l' : Holds
+    l' = With A (A + R) F (F + N) area'
 
-    long : length P ≡ R
-    long = ap length (sym (part_lent A R l area' (within seen l) size)) ∙ part_length A R l area' (within seen l) size
+    in_bytes : A + R ≤ length l.bytes
+    in_bytes = within seen (length l.bytes)
+
+    in_ends : F + N ≤ length l.ends
+    in_ends = within seen (length l.ends)
+
+    long : length P.bytes ≡ R
+    long = ap length (sym (part_lent A R l.bytes area'.bytes in_bytes size)) ∙ part_length A R l.bytes area'.bytes in_bytes size
 
     at_found : found_for seen h ≡ true → own_place seen ≡ spot_in seen
     at_found f = go seen.own refl
@@ -157,22 +182,22 @@ module _ (s : Settings) (c : Replica) (seen : Lookup) (h e n : ℕ) (part : the_
         go None q = absurd (true≢false (sym (both (is_found seen) _ f).0 ∙ ap prelude.is_some q))
 
     -- what is put is put at the lent area's place
-    own_area : (at : ℕ) → at ≡ spot_in seen → area_at R at l' ≡ area'
-    own_area at e = ap (λ (k : ℕ). area_at R k l') e ∙ part_own A R l area' (within seen l) size
+    own_area : (at : ℕ) → at ≡ spot_in seen → area_at E at l' ≡ area'
+    own_area at e = ap (λ (k : ℕ). area_at E k l') e ∙ (λ j. record { bytes = part_own A R l.bytes area'.bytes in_bytes size j; ends = part_own F N l.ends area'.ends in_ends long_ends j })
 
-    action_is : (a : RowAction) → Puts seen (get_or w' 0 0) (length P) area' a → (stores a ≡ true → found_for seen h ≡ true) → action_for latest R l' a ≡ put_in area' a
+    action_is : (a : RowAction) → Puts seen (get_or w' 0 0) (length P.bytes) area' a → (stores a ≡ true → found_for seen h ≡ true) → action_for latest E l' a ≡ put_in area' a
     action_is RowAction.Leave n f = refl
     action_is RowAction.Clear n f = absurd n
     action_is (RowAction.Rebind freed at x) n f = absurd n
-    action_is (RowAction.Store at x) n f = ap (λ (y : List ℕ). store x.handle (bound_of latest x y)) (own_area at (n.at_is ∙ at_found (f refl)))
+    action_is (RowAction.Store at x) n f = ap (λ (y : Holds). store x.handle (bound_of latest x y)) (own_area at (n.at_is ∙ at_found (f refl)))
 
-    puts_in : (a : RowAction) → Puts seen (get_or w' 0 0) (length P) area' a → (stores a ≡ true → found_for seen h ≡ true) → Puts seen (get_or w' 0 0) R (area_at R (own_place seen) l') a
+    puts_in : (a : RowAction) → Puts seen (get_or w' 0 0) (length P.bytes) area' a → (stores a ≡ true → found_for seen h ≡ true) → Puts seen (get_or w' 0 0) R (area_at E (own_place seen) l') a
     puts_in RowAction.Leave n f = tt
     puts_in RowAction.Clear n f = n
     puts_in (RowAction.Rebind freed at x) n f = n
     puts_in (RowAction.Store at x) n f = record {
       at_is = n.at_is;
-      slot_is = n.slot_is ∙ ap (λ (y : List ℕ). record_for x.handle (bound_of latest x y)) (sym (own_area (own_place seen) (at_found (f refl))));
+      slot_is = n.slot_is ∙ ap (λ (y : Holds). record_for x.handle (bound_of latest x y)) (sym (own_area (own_place seen) (at_found (f refl))));
       slot_place = n.slot_place;
       slot_len = subst (λ (k : ℕ). x.held_len ≤ k) long n.slot_len;
     }
@@ -180,24 +205,42 @@ module _ (s : Settings) (c : Replica) (seen : Lookup) (h e n : ℕ) (part : the_
     abbrev O : ℕ → Option Bound → Option HoldWrite
     O room o = writes_frame (settings_of s room) (counters_of c) o (batch h e n part cs apps)
 
-    wrote : (o : Option HoldWrite) → Inside R o → area' ≡ hold_area_with o P → l' ≡ holds_after R (spot_in seen) o l
-    wrote none q is =
-        ap (put_mid A (A + R - A) l) (is ∙ sym (part_lent A R l area' (within seen l) size)) ∙ put_same A (A + R - A) l
-    wrote (some x) q is =
-        let mid : mid_of A (A + R - A) l ≡ P = part_lent A R l area' (within seen l) size in
-        let low : A ≤ length l = omega (arith, within seen l) in
-        ap (put_mid A (A + R - A) l) (is ∙ ap (λ (m : List ℕ). write m x.offset x.bytes) (sym mid))
-        ∙ write_part A (A + R - A) x.offset l x.bytes low (subst (λ (k : ℕ). x.offset + length x.bytes ≤ k) (sym (part_length A R l area' (within seen l) size)) q)
+    bytes_same : area'.bytes ≡ P.bytes → put_mid A (A + R - A) l.bytes area'.bytes ≡ l.bytes
+    bytes_same is = ap (put_mid A (A + R - A) l.bytes) (is ∙ sym (part_lent A R l.bytes area'.bytes in_bytes size)) ∙ put_same A (A + R - A) l.bytes
 
-    at_own : l' ≡ holds_after R (spot_in seen) (O R (found_in seen l)) l → l' ≡ holds_after R (own_place seen) (O R (found_in seen l)) l
+    ends_same : area'.ends ≡ P.ends → put_mid F (F + N - F) l.ends area'.ends ≡ l.ends
+    ends_same is = ap (put_mid F (F + N - F) l.ends) (is ∙ sym (part_lent F N l.ends area'.ends in_ends long_ends)) ∙ put_same F (F + N - F) l.ends
+
+    bytes_wrote : (x : HoldWrite) → x.offset + length x.bytes ≤ R → area'.bytes ≡ write P.bytes x.offset x.bytes → put_mid A (A + R - A) l.bytes area'.bytes ≡ write l.bytes (A + x.offset) x.bytes
+    bytes_wrote x q is =
+        let mid : mid_of A (A + R - A) l.bytes ≡ P.bytes = part_lent A R l.bytes area'.bytes in_bytes size in
+        let low : A ≤ length l.bytes = omega (arith, in_bytes) in
+        ap (put_mid A (A + R - A) l.bytes) (is ∙ ap (λ (m : List ℕ). write m x.offset x.bytes) (sym mid))
+        ∙ write_part A (A + R - A) x.offset l.bytes x.bytes low (subst (λ (k : ℕ). x.offset + length x.bytes ≤ k) (sym (part_length A R l.bytes area'.bytes in_bytes size)) q)
+
+    ends_wrote : (closed : List ℕ) (len : ℕ) → area'.ends ≡ set P.ends (length closed) (end_for (open_from 0 closed) len) → put_mid F (F + N - F) l.ends area'.ends ≡ with_end N (spot_in seen) closed len l.ends
+    ends_wrote closed len is =
+        let mid : mid_of F (F + N - F) l.ends ≡ P.ends = part_lent F N l.ends area'.ends in_ends long_ends in
+        let low : F ≤ length l.ends = omega (arith, in_ends) in
+        ap (put_mid F (F + N - F) l.ends) (is ∙ ap (λ (m : List ℕ). set m (length closed) (end_for (open_from 0 closed) len)) (sym mid))
+        ∙ set_part F (F + N - F) (length closed) (end_for (open_from 0 closed) len) l.ends low
+        ∙ ap (λ (k : ℕ). cond (ltb (length closed) k) (set l.ends (F + length closed) (end_for (open_from 0 closed) len)) l.ends) (part_length F N l.ends area'.ends in_ends long_ends)
+
+    wrote : (closes : Bool) (o : Option HoldWrite) → Inside R o → area' ≡ hold_area_with closes o P → l' ≡ holds_after E (spot_in seen) closes o l
+    wrote closes none q is = λ j. record { bytes = bytes_same (ap (λ (y : Holds). y.bytes) is) j; ends = ends_same (ap (λ (y : Holds). y.ends) is) j }
+    wrote true (some x) q is =
+        λ j. record { bytes = bytes_wrote x q (ap (λ (y : Holds). y.bytes) is) j; ends = ends_wrote (closed_ends P.ends 0 x.offset) (x.offset + length x.bytes) (ap (λ (y : Holds). y.ends) is) j }
+    wrote false (some x) q is = λ j. record { bytes = bytes_wrote x q (ap (λ (y : Holds). y.bytes) is) j; ends = ends_same (ap (λ (y : Holds). y.ends) is) j }
+
+    at_own : l' ≡ holds_after E (spot_in seen) (is_whole part) (O R (found_in seen l)) l → l' ≡ holds_after E (own_place seen) (is_whole part) (O R (found_in seen l)) l
     at_own is = go seen.own is
       where
-        go : (o : prelude.Option Found) → l' ≡ holds_after R (at_or o 0) (O R (found_of latest (prelude.is_some o) (record_or_free o) (area_at R (at_or o seen.len) l))) l
-            → l' ≡ holds_after R (at_or o seen.len) (O R (found_of latest (prelude.is_some o) (record_or_free o) (area_at R (at_or o seen.len) l))) l
+        go : (o : prelude.Option Found) → l' ≡ holds_after E (at_or o 0) (is_whole part) (O R (found_of latest (prelude.is_some o) (record_or_free o) (area_at E (at_or o seen.len) l))) l
+            → l' ≡ holds_after E (at_or o seen.len) (is_whole part) (O R (found_of latest (prelude.is_some o) (record_or_free o) (area_at E (at_or o seen.len) l))) l
         go (Some g) p = p
         go None p =
-            p ∙ ap (λ (o : Option HoldWrite). holds_after R 0 o l) (none_frame (settings_of s R) h n cs (counters_of c) e part apps)
-            ∙ sym (ap (λ (o : Option HoldWrite). holds_after R seen.len o l) (none_frame (settings_of s R) h n cs (counters_of c) e part apps))
+            p ∙ ap (λ (o : Option HoldWrite). holds_after E 0 (is_whole part) o l) (none_frame (settings_of s R) h n cs (counters_of c) e part apps)
+            ∙ sym (ap (λ (o : Option HoldWrite). holds_after E seen.len (is_whole part) o l) (none_frame (settings_of s R) h n cs (counters_of c) e part apps))
 
     pub batch_in : BatchIn s c seen h e n part cs apps w w' b b' l l' r
     batch_in = record {
@@ -213,23 +256,31 @@ module _ (s : Settings) (c : Replica) (seen : Lookup) (h e n : ℕ) (part : the_
         last = refl;
       };
       holds = λ own.
-          at_own (wrote (O R (found_in seen l)) (frame_inside (settings_of s R) h n cs (counters_of c) (found_in seen l) e part apps)
-          (g.area_is ∙ (λ j. hold_area_with (O (long j) (found_is seen h l own j)) P)));
+          at_own (wrote (is_whole part) (O R (found_in seen l)) (frame_inside (settings_of s R) h n cs (counters_of c) (found_in seen l) e part apps)
+          (g.area_is ∙ (λ j. hold_area_with (is_whole part) (O (long j) (found_is seen h l own j)) P)));
       exact = g.exact;
     }
 
-  -- over the part as it was lent
-  abbrev Goes : List ℕ → List ℕ → List ℕ → Outcome → ℕ → ℕ → Type 0
-  Goes w' b' area' r room lo =
-      length area' ≡ length (mid_of lo (lo + room - lo) l) → BatchIs s c seen h e n part cs apps w1 w' b b' (mid_of lo (lo + room - lo) l) area' r
-      → BatchIn s c seen h e n part cs apps w w' b b' l (put_mid lo (lo + room - lo) l area') r
+  -- over the parts as they were lent
+  abbrev Goes : List ℕ → List ℕ → Holds → Outcome → ℕ → ℕ → ℕ → ℕ → Type 0
+  Goes w' b' area' r lo hi first last =
+      length area'.bytes ≡ length (mid_of lo (hi - lo) l.bytes) → length area'.ends ≡ length (mid_of first (last - first) l.ends)
+      → BatchIs s c seen h e n part cs apps w1 w' b b' (Lent lo hi first last) area' r
+      → BatchIn s c seen h e n part cs apps w w' b b' l (With lo hi first last area') r
 
-  goes : (w' b' area' : List ℕ) (r : Outcome) → Goes w' b' area' r R A
-  goes w' b' area' r size g = batch_in size (subst (λ (x : List ℕ). BatchIs s c seen h e n part cs apps w1 w' b b' x area' r) (part_lent A R l area' (within seen l) size) g)
+  goes : (w' b' : List ℕ) (area' : Holds) (r : Outcome) → Goes w' b' area' r A (A + R) F (F + N)
+  goes w' b' area' r size long_ends g =
+      batch_in size long_ends
+      (subst (λ (x : Holds). BatchIs s c seen h e n part cs apps w1 w' b b' x area' r)
+      (λ j. record { bytes = part_lent A R l.bytes area'.bytes (within seen (length l.bytes)) size j; ends = part_lent F N l.ends area'.ends (within seen (length l.ends)) long_ends j })
+      g)
 
-  pub batch_at : (w' b' area' : List ℕ) (r : Outcome) {room lo : ℕ} → room ≡ R → lo ≡ spot_in seen * room → Goes w' b' area' r room lo
-  batch_at w' b' area' r {room} {lo} p q =
-      subst (λ (k : ℕ). (x : ℕ) → x ≡ spot_in seen * k → Goes w' b' area' r k x) (sym p) (λ x f. subst (Goes w' b' area' r R) (sym f) (goes w' b' area' r)) lo q
+  pub batch_at : (w' b' : List ℕ) (area' : Holds) (r : Outcome) {lo hi first last : ℕ} → lo ≡ A → hi ≡ lo + R → first ≡ F → last ≡ first + N → Goes w' b' area' r lo hi first last
+  batch_at w' b' area' r {lo} {hi} {first} {last} p q f d =
+      subst (λ (x : ℕ). Goes w' b' area' r x hi first last) (sym p)
+      (subst (λ (x : ℕ). Goes w' b' area' r A x first last) (sym (q ∙ ap (λ (k : ℕ). k + R) p))
+      (subst (λ (x : ℕ). Goes w' b' area' r A (A + R) x last) (sym f)
+      (subst (λ (x : ℕ). Goes w' b' area' r A (A + R) F x) (sym (d ∙ ap (λ (k : ℕ). k + N) f)) (goes w' b' area' r))))
 
 -- ---- what the Batch asks
 

@@ -3,6 +3,7 @@
 
 ghost use Rattle.std.specs.Prelude.{◌≡◌, ◌<◌, IfSome};
 ghost use Rattle.frame_op.specs.Answers.{held_run};
+ghost use Rattle.standby_segments.specs.Segments.{hold_areas};
 ghost use Rattle.frame_fields.specs.Answers.{part_of};
 ghost use Rattle.store_areas.specs.Same.{SameAreas};
 ghost use Rattle.standby_pending.specs.Pending.{count_of};
@@ -28,15 +29,16 @@ pub fn on_handle(
     changes: &AllChanges,
     store: &mut Store,
     area: &mut [u8],
+    ends: &mut [u64],
     handle: u32,
     bound: Option<Bound>,
     number: CommitNumber,
     part: Part,
 ) -> PartResult
     requires words_bound { count_of store.old.words.now < 64 }
-    requires sound { IfSome bound (λ h. Sound handle h store.old.words.now area.old) }
-    ensures is { HandleIs changes.now.changes.protocol.version store.old.shape handle bound number.0 (part_of part) (held_run changes.now.changes.protocol.version changes.now.changes.run.now) store.old.words.now store.new.words.now store.old.bytes.now store.new.bytes.now area.old area.new result }
-    ensures area { area.new ≡ hold_area_after changes.now.changes.protocol.version bound number.0 (part_of part) changes.now.changes.run.now area.old (part_refusal result) }
+    requires sound { IfSome bound (λ h. Sound handle h store.old.words.now (hold_areas area.old ends.old)) }
+    ensures is { HandleIs changes.now.changes.protocol.version store.old.shape handle bound number.0 (part_of part) (held_run changes.now.changes.protocol.version changes.now.changes.run.now) store.old.words.now store.new.words.now store.old.bytes.now store.new.bytes.now (hold_areas area.old ends.old) (hold_areas area.new ends.new) result }
+    ensures area { hold_areas area.new ends.new ≡ hold_area_after changes.now.changes.protocol.version bound number.0 (part_of part) changes.now.changes.run.now (hold_areas area.old ends.old) (part_refusal result) }
     ensures same { SameAreas store.old store.new }
 {
     let Some(bound) = bound else {
@@ -50,8 +52,12 @@ pub fn on_handle(
         });
     }
     match part {
-        Part::Commit => standby_part::on_commit(&changes.changes, store, area, bound, number),
-        Part::Whole => standby_part::on_whole(changes, area, bound, number),
-        Part::LastWhole => standby_part::on_last_whole(changes, store, area, bound, number),
+        Part::Commit => {
+            standby_part::on_commit(&changes.changes, store, area, ends, bound, number)
+        }
+        Part::Whole => standby_part::on_whole(changes, area, ends, bound, number),
+        Part::LastWhole => {
+            standby_part::on_last_whole(changes, store, area, ends, bound, number)
+        }
     }
 }

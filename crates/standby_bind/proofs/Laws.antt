@@ -6,7 +6,7 @@ use mathlib.Core.Option
 use mathlib.Core.Option.{Option, none, some}
 use Prim.Native.Nat.{ℕ, ◌+◌, ◌<◌, ◌≤◌}
 use native.Mathlib.Omega.{arith}
-use lib.ListN.{length, get_or, set, take, drop, get_elem?, length-set, length-take}
+use lib.ListN.{length, get_or, set, take, drop, get_elem?, length-set}
 use lib.Seq.{take-take, drop-set-lt, get_or-set_same, get_or-set_other}
 use lib.Dec.{ltb}
 use borrow.Author.Tests.{lt-ltb, le-ltb, ltb-true}
@@ -21,7 +21,9 @@ use Rattle.model_standby.specs.Store.{Place, place_of, is_stored, session_at, or
 use Rattle.model_standby.specs.Answer.{reply, accepted}
 use Rattle.model_standby.specs.State.{new_bound}
 use Rattle.model_standby.specs.Core.{Core, CoreResult, leave, rebind, core_says, core_refuse, core_bind}
-use Rattle.frame_op.specs.Answers.{held_run}
+use Rattle.standby_segments.specs.Segments.{held_in}
+use Rattle.standby_segments.proofs.Meaning.{none_held}
+use Rattle.standby_handles.specs.Rows.{area_at}
 use Rattle.store_areas.specs.declared.Shape.{Shape}
 use Rattle.store_areas.specs.Areas.{place_words, words_at, Rules, place_at, places_of}
 use Rattle.store_areas.proofs.Lists.{word_kept}
@@ -30,7 +32,6 @@ use Rattle.store_sessions.specs.Answers.{stored_place, Opened}
 use Rattle.store_sessions.proofs.Seeking.{is_found, stored_at, not_stored, new_at}
 use Rattle.store_sessions.proofs.Opening.{opened_rules}
 use Rattle.model_frame.specs.Sizes.{sizes}
-use Rattle.standby_changes.proofs.Held.{held_none}
 use Rattle.standby_pending.specs.Pending.{count_of, commit_of, pending_of}
 use Rattle.standby_commit.specs.Settling.{stays, opens, opened_words, Touched, StoreAfter}
 use Rattle.standby_commit.proofs.Header.{pending_kept}
@@ -46,7 +47,7 @@ use Rattle.standby_state.specs.declared.Outcome.{Outcome}
 use Rattle.standby_state.specs.Answers.{answer_of, brief_of, is_refused, is_nack, is_bound}
 use Rattle.standby_state.specs.Exact.{Exact, ExactSummary}
 use Rattle.standby_state.proofs.Exact.{exact_refused, exact_nack, exact_bound}
-use Rattle.standby_state.specs.Outcomes.{counters_of, settings_of, room_for, area_at, spot_of, leaving, rebinding}
+use Rattle.standby_state.specs.Outcomes.{counters_of, settings_of, room_for, spot_of, leaving, rebinding}
 use Rattle.standby_bind.specs.Binding.{new_handle, BindOpens, BindIs}
 
 -- ---- opening
@@ -166,7 +167,7 @@ module _ (s : Settings) (c : Replica) (seen : Lookup) (row : List Bound) (h e la
 
   as_left : {o : Outcome} {a x : Answer} → o ≡ leaving c a → a ≡ x → accepted (answer_of b x) ≡ false → Exact b x → ((room : ℕ) → record { core = At; action = leave; answer = answer_of b x } ≡ Bind room) → BindIs s c seen row h e lag k w w b b o
   as_left {x = x} e₁ e₂ off is-exact is = subst (BindIs s c seen row h e lag k w w b b) (sym (e₁ ∙ ap (leaving c) e₂)) (record {
-    is = λ version room holds. is room;
+    is = λ version room holds. is room.bytes;
     lands = λ room area. tt;
     rules = r;
     more = omega arith;
@@ -229,8 +230,7 @@ module _ (s : Settings) (c : Replica) (seen : Lookup) (row : List Bound) (h e la
           binds {place} {w'} {b'} {m = m} has_room at op is-exact brief e₁ e₂ e₃ =
               subst (BindIs s c seen row h e lag k w w' b b') (sym (e₃ ∙ (λ j. rebinding c seen freed (e₁ j) (e₂ j)))) (record {
                 is = λ version room holds.
-                    let area : List ℕ = area_at room (spot_of seen freed) holds in
-                    let held : held_run version (take 0 area) ≡ [] = held_none version (take 0 area) (omega (arith, length-take 0 area)) in
+                    let held : held_in version (area_at room (spot_of seen freed) holds) 0 ≡ [] = none_held version (area_at room (spot_of seen freed) holds).ends in
                     let says : brief_of b' m ≡ summary (or_new (session_at places (place_of k places))) lag =
                     brief ∙ ap (λ (i : ℕ). summary (place_at s.shape w' b' i).stored.session lag) at ∙ ap (λ (x : Session). summary x lag) op.session in
                     (λ j. record {
@@ -238,11 +238,11 @@ module _ (s : Settings) (c : Replica) (seen : Lookup) (row : List Bound) (h e la
                       action = rebind h (record { place = at j; number = 0; held = held j; bytes = 0 });
                       answer = reply (bound h (says j));
                     })
-                    ∙ sym (third room ∙ ap (Tests false false true true) has_room);
+                    ∙ sym (third room.bytes ∙ ap (Tests false false true true) has_room);
                 lands = λ room area. record {
                   freed_is = rival_is ∙ ap (rival_of row h) (sym at);
                   at_is = refl;
-                  slot_is = λ y. (λ j. record { used = 1; handle = h; place = place; commit_no = record { 0 = 0 }; held_len = sym (ap sizes (held_none latest (take 0 y) (omega (arith, length-take 0 y)))) j; held_bytes = 0 });
+                  slot_is = λ y. (λ j. record { used = 1; handle = h; place = place; commit_no = record { 0 = 0 }; held_len = sym (ap sizes (none_held latest y.ends)) j; held_bytes = 0 });
                   slot_place = subst (λ (i : ℕ). i < get_or w' 0 0) (sym at) op.there;
                   holds_none = refl;
                 };

@@ -4,6 +4,7 @@ use Rattle.model_frame.specs.Frame.{Key}
 use Rattle.standby_row.specs.declared.Bound.{Bound}
 use Rattle.standby_row.specs.declared.lookup.Lookup.{Lookup}
 use Rattle.standby_row.specs.Row.{rival_of}
+use Rattle.standby_segments.specs.Segments.{Holds, Lengths}
 use Rattle.store_areas.specs.declared.Shape.{Shape}
 use Rattle.store_areas.specs.Areas.{Rules, place_at, places_of, used_of}
 use Rattle.standby_pending.specs.Pending.{pending_of}
@@ -42,8 +43,8 @@ pub record BindOpens (s : Shape) (k : Key) (w w' b b' : List ℕ) : Type 0 where
 
 -- equal to the definition, whatever the hold areas
 pub record BindIs (s : Settings) (c : Replica) (seen : Lookup) (row : List Bound) (h e lag : ℕ) (k : Key) (w w' b b' : List ℕ) (r : Outcome) : Type 0 where
-  pub is : (version room : ℕ) (holds : List ℕ) → outcome_of version room s.shape w' b' holds r ≡ core_bind (settings_of s room) (core_at (counters_of c) s.shape w b) (λ p. room_for seen (rival_of row h p)) h e lag k
-  pub lands : (room : ℕ) (area : List ℕ) → Lands seen row (used_of w') room area r.action
+  pub is : (version : ℕ) (room : Lengths) (holds : Holds) → outcome_of version room s.shape w' b' holds r ≡ core_bind (settings_of s room.bytes) (core_at (counters_of c) s.shape w b) (λ p. room_for seen (rival_of row h p)) h e lag k
+  pub lands : (room : ℕ) (area : Holds) → Lands seen row (used_of w') room area r.action
   pub rules : Rules s.shape w' b'
   pub more : used_of w ≤ used_of w'
   pub store_after : StoreAfter s.shape (bind_change (place_of k (places_of s.shape w b)) (is_stored k (places_of s.shape w b)) (accepted (answer_of b' r.answer))) w w' b b'

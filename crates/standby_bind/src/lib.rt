@@ -13,7 +13,7 @@ ghost use Rattle.store_areas.specs.Same.{SameAreas};
 ghost use Rattle.store_sessions.specs.Answers.{stored_place};
 ghost use Rattle.standby_state.specs.Answers.{brief_of};
 ghost use Rattle.standby_state.specs.Exact.{ExactSummary};
-ghost use Rattle.standby_state.specs.Lent.{SameLent};
+ghost use Rattle.standby_state.specs.Lent.{SameLent, holds_of};
 ghost use Rattle.standby_bind.specs.Binding.{Short, new_handle, BindOpens, BindIs};
 
 use base_refusals::Refusal;
@@ -124,7 +124,7 @@ pub fn on_bind(
     requires rules { Rules standing.settings.shape areas.old.words.now areas.old.bytes.now }
     requires short { Short (key_of frame.now session) }
     ensures is { BindIs standing.settings standing.counters standing.lookup areas.old.row.now handle epoch.0 max_lag (key_of frame.now session) areas.old.words.now areas.new.words.now areas.old.bytes.now areas.new.bytes.now result }
-    ensures holds { areas.new.holds.now ≡ areas.old.holds.now }
+    ensures holds { holds_of areas.new ≡ holds_of areas.old }
     ensures same { SameLent areas.old areas.new }
 {
     let Standing {

@@ -133,7 +133,7 @@ module _ (s : Settings) (c : Replica) (seen : Lookup) (row : List BoundRecord) (
     is = λ version room holds o.
         (λ j. record { core = record { counters = counters_of r.replica; places = cleared_places s.shape w b rules (clears r.action) j; pending = cleared_pending s.shape w b rules (clears r.action) j }; action = action_of version room holds r; answer = answer_of b r.answer })
         ∙ g.is version room holds b (places_of s.shape w b) (pending_of w)
-        ∙ plain_same (settings_of s room) (core_at (counters_of c) s.shape w b) o (rooms_in seen row (handle_in (intact f))) f p;
+        ∙ plain_same (settings_of s room.bytes) (core_at (counters_of c) s.shape w b) o (rooms_in seen row (handle_in (intact f))) f p;
     lands = λ room area. kept_lands seen row (get_or (cleared_if (clears r.action) w) 0 0) room area r.action g.stays;
     rules = cleared_rules s.shape w b rules (clears r.action);
     more = le_of_eq (sym (cleared_used s.shape w b rules (clears r.action)));
@@ -206,7 +206,7 @@ module _ (s : Settings) (c : Replica) (seen : Lookup) (row : List BoundRecord) (
 
   pub other_in : {w' b' : List ℕ} {r : Outcome} → OtherIs s c seen row f w1 w' b b' r → OtherIn s c seen row f w w' b b' r
   other_in {w'} {b'} {r} g = record {
-    is = λ version room holds o. g.is version room holds o ∙ ap (λ (k : Core). core_intact (settings_of s room) k o (rooms_in seen row (handle_in (intact f))) f) ran_is;
+    is = λ version room holds o. g.is version room holds o ∙ ap (λ (k : Core). core_intact (settings_of s room.bytes) k o (rooms_in seen row (handle_in (intact f))) f) ran_is;
     lands = g.lands;
     rules = g.rules;
     more = subst (λ (k : ℕ). k ≤ get_or w' 0 0) ran.used g.more;

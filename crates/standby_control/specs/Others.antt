@@ -3,6 +3,7 @@ use Rattle.std.specs.Prelude.{ℕ, ◌≤◌, ◌≡◌, Bool, false, cond, not,
 use Rattle.std.proofs.Math.Option.{Option}
 use Rattle.model_frame.specs.Frame.{Frame, hello, welcome, bind, batch, ack, nack, bound, checked}
 use Rattle.model_frame.specs.Parse.{is_empty}
+use Rattle.standby_segments.specs.Segments.{Holds, Lengths}
 use Rattle.standby_row.specs.declared.Bound.{Bound as BoundRecord}
 use Rattle.standby_row.specs.declared.lookup.Lookup.{Lookup}
 use Rattle.standby_row.specs.Row.{own_record}
@@ -50,9 +51,9 @@ cleared_if t w = cond t (set w StoreWord.pending 0) w
 
 -- equal to the definition, whatever the hold areas and the record found; what is left of the store is said where no commit is pending
 pub record OtherIs (s : Settings) (c : Replica) (seen : Lookup) (row : List BoundRecord) (f : Frame) (w w' b b' : List ℕ) (r : Outcome) : Type 0 where
-  pub is : (version room : ℕ) (holds : List ℕ) (o : Option Bound)
-      → outcome_of version room s.shape w' b' holds r ≡ core_intact (settings_of s room) (core_at (counters_of c) s.shape w b) o (rooms_in seen row (handle_in (intact f))) f
-  pub lands : (room : ℕ) (area : List ℕ) → Lands seen row (used_of w') room area r.action
+  pub is : (version : ℕ) (room : Lengths) (holds : Holds) (o : Option Bound)
+      → outcome_of version room s.shape w' b' holds r ≡ core_intact (settings_of s room.bytes) (core_at (counters_of c) s.shape w b) o (rooms_in seen row (handle_in (intact f))) f
+  pub lands : (room : ℕ) (area : Holds) → Lands seen row (used_of w') room area r.action
   pub rules : Rules s.shape w' b'
   pub more : used_of w ≤ used_of w'
   pub store_after : count_of w ≡ 0 → StoreAfter s.shape (changes_by (places_of s.shape w b) (own_record seen).place (intact f) (accepted (answer_of b' r.answer))) w w' b b'
@@ -60,10 +61,10 @@ pub record OtherIs (s : Settings) (c : Replica) (seen : Lookup) (row : List Boun
 
 -- the same, after the pending commits
 pub record OtherIn (s : Settings) (c : Replica) (seen : Lookup) (row : List BoundRecord) (f : Frame) (w w' b b' : List ℕ) (r : Outcome) : Type 0 where
-  pub is : (version room : ℕ) (holds : List ℕ) (o : Option Bound)
+  pub is : (version : ℕ) (room : Lengths) (holds : Holds) (o : Option Bound)
       → outcome_of version room s.shape w' b' holds r
-      ≡ core_intact (settings_of s room) (core_run (not (is_empty (pending_of w))) (core_at (counters_of c) s.shape w b)) o (rooms_in seen row (handle_in (intact f))) f
-  pub lands : (room : ℕ) (area : List ℕ) → Lands seen row (used_of w') room area r.action
+      ≡ core_intact (settings_of s room.bytes) (core_run (not (is_empty (pending_of w))) (core_at (counters_of c) s.shape w b)) o (rooms_in seen row (handle_in (intact f))) f
+  pub lands : (room : ℕ) (area : Holds) → Lands seen row (used_of w') room area r.action
   pub rules : Rules s.shape w' b'
   pub more : used_of w ≤ used_of w'
   pub leaves : FrameLeaves s.shape (changes_by (places_of s.shape w b) (own_record seen).place (intact f) (accepted (answer_of b' r.answer))) (not (is_empty (pending_of w))) false w w' b b'

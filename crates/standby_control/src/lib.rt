@@ -10,7 +10,7 @@ ghost use Rattle.frame.specs.Answers.{frame_of};
 ghost use Rattle.store_areas.specs.Areas.{Rules};
 ghost use Rattle.standby_hello.specs.Greeting.{Replies};
 ghost use Rattle.model_standby.specs.Core.{core_intact};
-ghost use Rattle.standby_state.specs.Lent.{SameLent};
+ghost use Rattle.standby_state.specs.Lent.{SameLent, holds_of};
 ghost use Rattle.standby_control.specs.Others.{Plain, Fit, cleared_if, OtherIs, OtherIn};
 ghost use Rattle.store_areas.specs.StoreWord;
 
@@ -78,7 +78,7 @@ fn answer(standing: Standing, areas: &mut Areas, frame: &[u8], decoded: Frame) -
     requires rules { Rules standing.settings.shape areas.old.words.now areas.old.bytes.now }
     requires fit { Fit (frame_of latest frame.now decoded) }
     ensures is { OtherIs standing.settings standing.counters standing.lookup areas.old.row.now (frame_of latest frame.now decoded) areas.old.words.now areas.new.words.now areas.old.bytes.now areas.new.bytes.now result }
-    ensures holds { areas.new.holds.now ≡ areas.old.holds.now }
+    ensures holds { holds_of areas.new ≡ holds_of areas.old }
     ensures same { SameLent areas.old areas.new }
 {
     match decoded {
@@ -106,7 +106,7 @@ pub fn run_due_then_answer(
     requires rules { Rules standing.settings.shape areas.old.words.now areas.old.bytes.now }
     requires fit { Fit (frame_of latest frame.now decoded) }
     ensures is { OtherIn standing.settings standing.counters standing.lookup areas.old.row.now (frame_of latest frame.now decoded) areas.old.words.now areas.new.words.now areas.old.bytes.now areas.new.bytes.now result }
-    ensures holds { areas.new.holds.now ≡ areas.old.holds.now }
+    ensures holds { holds_of areas.new ≡ holds_of areas.old }
     ensures same { SameLent areas.old areas.new }
 {
     let words = &mut *areas.words;

@@ -14,6 +14,8 @@ use Rattle.base_laws.proofs.Lists.{both}
 use Rattle.model_frame.specs.Frame.{Change, AppRecord, commit, whole, last_whole, hello, welcome, bind, batch, ack, nack, bound, checked}
 use Rattle.model_frame.specs.Frame as the_frame
 use Rattle.std.specs.Prelude as prelude
+use Rattle.standby_segments.specs.Segments.{Holds}
+use Rattle.standby_handles.specs.Rows.{area_at}
 use Rattle.standby_row.specs.declared.Bound.{Bound as BoundRecord}
 use Rattle.standby_row.specs.declared.lookup.Lookup.{Lookup}
 use Rattle.standby_row.specs.Row.{own_place, own_record}
@@ -39,22 +41,22 @@ use Rattle.standby_state.specs.declared.Answer.{Answer}
 use Rattle.standby_state.specs.declared.Outcome.{Outcome}
 use Rattle.standby_state.specs.Answers.{answer_of, frame_by, is_refused}
 use Rattle.standby_state.specs.Exact.{Exact}
-use Rattle.standby_state.specs.Outcomes.{counters_of, settings_of, leaving, area_at, action_of, outcome_of, Lands}
+use Rattle.standby_state.specs.Outcomes.{counters_of, settings_of, leaving, action_of, outcome_of, Lands}
 use Rattle.standby_state.proofs.Exact.{exact_refused}
 use Rattle.standby_batch_due.specs.DueBatch.{RecordRulesIn, BatchIn}
 use Rattle.standby_batch_due.proofs.Laws.{puts_lands}
 use Rattle.standby_control.specs.Others.{Fit, OtherIn}
-use Rattle.standby_step.specs.Steps.{room_in, is_found, found_in, rooms_in, seen_allowed, due_now, changes_by, keeps_by, FrameLeaves, holds_after, has_handle, StepIs}
+use Rattle.standby_step.specs.Steps.{room_in, lengths_in, is_found, found_in, rooms_in, seen_allowed, due_now, changes_by, keeps_by, FrameLeaves, holds_after, closes_given, has_handle, StepIs}
 use Rattle.standby_frame.specs.Taking.{is_answered, Own, IntactIs, Takes}
 use Rattle.standby_frame.proofs.Frames.{due_other, writes_other}
 
 -- ---- a frame that was read
 
-pub batch_intact : (s : Settings) (c : Replica) (seen : Lookup) (row : List BoundRecord) (h e n : ℕ) (part : the_frame.Part) (cs : List Change) (apps : List AppRecord) (w w' b b' l l' : List ℕ) (r : Outcome)
+pub batch_intact : (s : Settings) (c : Replica) (seen : Lookup) (row : List BoundRecord) (h e n : ℕ) (part : the_frame.Part) (cs : List Change) (apps : List AppRecord) (w w' b b' : List ℕ) (l l' : Holds) (r : Outcome)
     → BatchIn s c seen h e n part cs apps w w' b b' l l' r → IntactIs s c seen row (batch h e n part cs apps) w w' b b' l l' r
 batch_intact s c seen row h e n part cs apps w w' b b' l l' r g = record {
   is = λ own. g.is (λ f. own f refl);
-  lands = puts_lands seen row (get_or w' 0 0) (room_in seen l) (area_at (room_in seen l) (own_place seen) l') r.action g.puts;
+  lands = puts_lands seen row (get_or w' 0 0) (room_in seen l.bytes) (area_at (lengths_in seen l) (own_place seen) l') r.action g.puts;
   rules = g.rules;
   more = le_of_eq (sym g.used);
   leaves = g.leaves;
@@ -62,16 +64,16 @@ batch_intact s c seen row h e n part cs apps w w' b b' l l' r g = record {
   exact = g.exact;
 }
 
-pub other_intact : (s : Settings) (c : Replica) (seen : Lookup) (row : List BoundRecord) (f : the_frame.Frame) → Fit f → (w w' b b' l : List ℕ) {l' : List ℕ} (r : Outcome) → OtherIn s c seen row f w w' b b' r → l' ≡ l → IntactIs s c seen row f w w' b b' l l' r
-other_intact s c seen row f fit w w' b b' l r g same = subst (λ (x : List ℕ). IntactIs s c seen row f w w' b b' l x r) (sym same) (record {
+pub other_intact : (s : Settings) (c : Replica) (seen : Lookup) (row : List BoundRecord) (f : the_frame.Frame) → Fit f → (w w' b b' : List ℕ) (l : Holds) {l' : Holds} (r : Outcome) → OtherIn s c seen row f w w' b b' r → l' ≡ l → IntactIs s c seen row f w w' b b' l l' r
+other_intact s c seen row f fit w w' b b' l r g same = subst (λ (x : Holds). IntactIs s c seen row f w w' b b' l x r) (sym same) (record {
   is = λ own.
-      g.is latest (room_in seen l) l (found_in seen l)
-      ∙ ap (λ (t : Bool). core_intact (settings_of s (room_in seen l)) (core_run t (core_at (counters_of c) s.shape w b)) (found_in seen l) (rooms_in seen row (handle_in (intact f))) f) (due_other (pending_of w) f fit);
-  lands = g.lands (room_in seen l) (area_at (room_in seen l) (own_place seen) l);
+      g.is latest (lengths_in seen l) l (found_in seen l)
+      ∙ ap (λ (t : Bool). core_intact (settings_of s (room_in seen l.bytes)) (core_run t (core_at (counters_of c) s.shape w b)) (found_in seen l) (rooms_in seen row (handle_in (intact f))) f) (due_other (pending_of w) f fit);
+  lands = g.lands (room_in seen l.bytes) (area_at (lengths_in seen l) (own_place seen) l);
   rules = g.rules;
   more = g.more;
   leaves = subst (λ (t : Bool). FrameLeaves s.shape (changes_by (places_of s.shape w b) (own_record seen).place (intact f) (accepted (answer_of b' r.answer))) t false w w' b b') (due_other (pending_of w) f fit) g.leaves;
-  holds = λ own. sym (ap (λ (o : Option HoldWrite). holds_after (room_in seen l) (own_place seen) o l) (writes_other (settings_of s (room_in seen l)) (counters_of c) (found_in seen l) f fit));
+  holds = λ own. sym (ap (λ (o : Option HoldWrite). holds_after (lengths_in seen l) (own_place seen) (closes_given (intact f)) o l) (writes_other (settings_of s (room_in seen l.bytes)) (counters_of c) (found_in seen l) f fit));
   exact = g.exact;
 })
 
@@ -94,9 +96,9 @@ off_stays ps p (intact (nack h r)) = refl
 off_stays ps p (intact (bound h m)) = refl
 off_stays ps p (intact (checked h e i)) = refl
 
-module _ (s : Settings) (c : Replica) (seen : Lookup) (row : List BoundRecord) (frame w b h : List ℕ) (rules : Rules s.shape w b) where
+module _ (s : Settings) (c : Replica) (seen : Lookup) (row : List BoundRecord) (frame w b : List ℕ) (h : Holds) (rules : Rules s.shape w b) where
   abbrev L : state.Settings
-  L = settings_of s (room_in seen h)
+  L = settings_of s (room_in seen h.bytes)
 
   abbrev K : Core
   K = core_at (counters_of c) s.shape w b
@@ -139,7 +141,7 @@ module _ (s : Settings) (c : Replica) (seen : Lookup) (row : List BoundRecord) (
                 (sym (ap (λ (t : Bool). cond t (ran_words s.shape w) w) (ap (due_now (is_set c.promoted) (pending_of w)) is ∙ due-none)), refl);
             last = refl;
           };
-          holds = sym (ap (λ (o : Option HoldWrite). holds_after (room_in seen h) (own_place seen) o h) (ap (writes L (counters_of c) F) is ∙ none_written));
+          holds = sym (ap (λ (o : Option HoldWrite). holds_after (lengths_in seen h) (own_place seen) (closes_given (given V frame)) o h) (ap (writes L (counters_of c) F) is ∙ none_written));
         };
         exact = exact_refused b n;
       })
@@ -157,7 +159,7 @@ module _ (s : Settings) (c : Replica) (seen : Lookup) (row : List BoundRecord) (
       (ap (λ (t : Bool). cond t none (writes_frame L (counters_of c) F f)) (set_so c.promoted on))
       e₁
 
-  pub intact_taken : (f : the_frame.Frame) → given V frame ≡ intact f → c.promoted ≡ 0 → {w' b' h' : List ℕ} {r : Outcome} → IntactIs s c seen row f w w' b b' h h' r → Takes s c seen row frame w w' b b' h h' r
+  pub intact_taken : (f : the_frame.Frame) → given V frame ≡ intact f → c.promoted ≡ 0 → {w' b' : List ℕ} {h' : Holds} {r : Outcome} → IntactIs s c seen row f w w' b b' h h' r → Takes s c seen row frame w w' b b' h h' r
   unfolding core_given writes
   intact_taken f is off {w'} {b'} {h'} {r} g = record {
     rules = g.rules;
@@ -178,7 +180,8 @@ module _ (s : Settings) (c : Replica) (seen : Lookup) (row : List BoundRecord) (
               (subst (λ (t : Bool). FrameLeaves s.shape (changes_by (places_of s.shape w b) (own_record seen).place (intact f) (accepted (answer_of b' r.answer))) (not t && due (pending_of w) f) false w w' b b') (sym (clear_so c.promoted off)) g.leaves);
           holds =
               g.holds mine
-              ∙ ap (λ (o : Option HoldWrite). holds_after (room_in seen h) (own_place seen) o h)
+              ∙ ap (λ (t : Bool). holds_after (lengths_in seen h) (own_place seen) t (writes_frame L (counters_of c) F f) h) (sym (ap closes_given is))
+              ∙ ap (λ (o : Option HoldWrite). holds_after (lengths_in seen h) (own_place seen) (closes_given (given V frame)) o h)
               (sym (ap (writes L (counters_of c) F) is ∙ ap (λ (t : Bool). cond t none (writes_frame L (counters_of c) F f)) (clear_so c.promoted off)));
         };
     exact = g.exact;
@@ -186,28 +189,28 @@ module _ (s : Settings) (c : Replica) (seen : Lookup) (row : List BoundRecord) (
 
 -- ---- the call: 25, or the frame
 
-module _ (s : Settings) (c : Replica) (seen : Lookup) (row : List BoundRecord) (w b h : List ℕ) where
-  pub rules_seen : seen_allowed s.shape seen w b h ≡ true → Rules s.shape w b
+module _ (s : Settings) (c : Replica) (seen : Lookup) (row : List BoundRecord) (w b : List ℕ) (h : Holds) where
+  pub rules_seen : seen_allowed s.shape seen w b h.bytes ≡ true → Rules s.shape w b
   rules_seen e = rules_of s.shape w b (both (allowed s.shape w b) _ e).0
 
-  pub holds_seen : seen_allowed s.shape seen w b h ≡ true → is_found seen ≡ true → RecordRulesIn seen w h
+  pub holds_seen : seen_allowed s.shape seen w b h.bytes ≡ true → is_found seen ≡ true → RecordRulesIn seen w h
   holds_seen e f =
       let p = (both (not (prelude.is_some seen.broken)) _ (both seen.apart _ (both (allowed s.shape w b) _ e).1).1).1 in
       let q = both (ltb (own_record seen).place (get_or w 0 0)) _ (go (is_found seen) _ f p) in
-      record { place_used = ltb-true (own_record seen).place (get_or w 0 0) q.0; held_within = leb-true (own_record seen).held_len (room_in seen h) q.1 }
+      record { place_used = ltb-true (own_record seen).place (get_or w 0 0) q.0; held_within = leb-true (own_record seen).held_len (room_in seen h.bytes) q.1 }
     where
       go : (t x : Bool) → t ≡ true → (not t || x) ≡ true → x ≡ true
       go true x e f = f
       go false x e f = absurd (true≢false (sym e))
 
-  pub refuses_25 : (call : Call) {t : Bool} → t ≡ seen_allowed s.shape seen w b h → t ≡ false → {r : Outcome} → r ≡ leaving c (is_refused 25) → StepIs s c seen row call w w b b h h r
+  pub refuses_25 : (call : Call) {t : Bool} → t ≡ seen_allowed s.shape seen w b h.bytes → t ≡ false → {r : Outcome} → r ≡ leaving c (is_refused 25) → StepIs s c seen row call w w b b h h r
   refuses_25 call e off e₁ = record {
     refuses = λ _. (e₁, (refl, (refl, refl)));
     steps = λ y _. absurd (true≢false (sym y ∙ sym e ∙ off));
     exact = subst (λ (x : Outcome). Exact b x.answer) (sym e₁) (exact_refused b 25);
   }
 
-  module _ (frame : List ℕ) {w1 b' h' : List ℕ} {r : Outcome} {t : Bool} (e : t ≡ seen_allowed s.shape seen w b h) (on : t ≡ true) (g : Takes s c seen row frame w w1 b b' h h' r) where
+  module _ (frame : List ℕ) {w1 b' : List ℕ} {h' : Holds} {r : Outcome} {t : Bool} (e : t ≡ seen_allowed s.shape seen w b h.bytes) (on : t ≡ true) (g : Takes s c seen row frame w w1 b b' h h' r) where
     pub held_steps : StepIs s c seen row (on_frame_held frame) w w1 b b' h h' r
     held_steps = record { refuses = λ y. absurd (true≢false (sym (sym e ∙ on) ∙ y)); steps = λ _ own. g.steps own; exact = g.exact }
 
@@ -226,10 +229,10 @@ module _ (s : Settings) (c : Replica) (seen : Lookup) (row : List BoundRecord) (
       core_ran : core_at (counters_of r.replica) s.shape w' b' ≡ core_run (is_reply (answer_of b' r.answer)) (core_at (counters_of r.replica) s.shape w1 b')
       core_ran = (λ j. record { counters = counters_of r.replica; places = ran.places j; pending = ran.pending j }) ∙ ap (λ (t : Bool). core_run t (core_at (counters_of r.replica) s.shape w1 b')) replies
 
-      flushed_is : (m : CoreResult) → outcome_of latest (room_in seen h) s.shape w1 b' h' r ≡ m
-          → outcome_of latest (room_in seen h) s.shape w' b' h' r ≡ core_flushed (settings_of s (room_in seen h)) m
+      flushed_is : (m : CoreResult) → outcome_of latest (lengths_in seen h) s.shape w1 b' h' r ≡ m
+          → outcome_of latest (lengths_in seen h) s.shape w' b' h' r ≡ core_flushed (settings_of s (room_in seen h.bytes)) m
       flushed_is m p =
-          (λ j. record { core = core_ran j; action = action_of latest (room_in seen h) h' r; answer = answer_of b' r.answer }) ∙ ap (core_flushed (settings_of s (room_in seen h))) p
+          (λ j. record { core = core_ran j; action = action_of latest (lengths_in seen h) h' r; answer = answer_of b' r.answer }) ∙ ap (core_flushed (settings_of s (room_in seen h.bytes))) p
 
       pub now_steps : StepIs s c seen row (on_frame frame) w w' b b' h h' r
       unfolding core_step
@@ -239,7 +242,7 @@ module _ (s : Settings) (c : Replica) (seen : Lookup) (row : List BoundRecord) (
             let p = g.steps own in
             record {
               is = flushed_is _ p.is;
-              lands = subst (λ (k : ℕ). Lands seen row k (room_in seen h) (area_at (room_in seen h) (own_place seen) h') r.action) (sym ran.used) p.lands;
+              lands = subst (λ (k : ℕ). Lands seen row k (room_in seen h.bytes) (area_at (lengths_in seen h) (own_place seen) h') r.action) (sym ran.used) p.lands;
               kept = p.kept;
               rules = ran.rules;
               more = subst (λ (k : ℕ). get_or w 0 0 ≤ k) (sym ran.used) p.more;

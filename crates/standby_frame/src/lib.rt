@@ -12,7 +12,7 @@ ghost use Rattle.store_areas.specs.Areas.{Rules};
 ghost use Rattle.model_standby.specs.Answer.{is_reply};
 ghost use Rattle.model_standby.specs.State.{on_frame_held, on_frame};
 ghost use Rattle.standby_state.specs.Answers.{answer_of};
-ghost use Rattle.standby_state.specs.Lent.{SameLent};
+ghost use Rattle.standby_state.specs.Lent.{SameLent, holds_of};
 ghost use Rattle.standby_batch_due.specs.DueBatch.{RecordRulesIn};
 ghost use Rattle.standby_step.specs.Steps.{is_found};
 ghost use Rattle.standby_step.specs.Over.{StepOver};
@@ -26,10 +26,10 @@ use standby_state::{Answer, Areas, Outcome, Standing};
 // A frame that was read, once the standby isn't promoted.
 fn on_decoded(standing: Standing, areas: &mut Areas, frame: &[u8], decoded: Frame) -> Outcome
     requires rules { Rules standing.settings.shape areas.old.words.now areas.old.bytes.now }
-    requires record_rules_in { is_found standing.lookup ≡ true → RecordRulesIn standing.lookup areas.old.words.now areas.old.holds.now }
+    requires record_rules_in { is_found standing.lookup ≡ true → RecordRulesIn standing.lookup areas.old.words.now (holds_of areas.old) }
     requires writable { Writable latest (frame_of latest frame.now decoded) }
     requires sized { Sized latest frame.now decoded }
-    ensures is { IntactIs standing.settings standing.counters standing.lookup areas.old.row.now (frame_of latest frame.now decoded) areas.old.words.now areas.new.words.now areas.old.bytes.now areas.new.bytes.now areas.old.holds.now areas.new.holds.now result }
+    ensures is { IntactIs standing.settings standing.counters standing.lookup areas.old.row.now (frame_of latest frame.now decoded) areas.old.words.now areas.new.words.now areas.old.bytes.now areas.new.bytes.now (holds_of areas.old) (holds_of areas.new) result }
     ensures same { SameLent areas.old areas.new }
 {
     match decoded {
@@ -41,8 +41,8 @@ fn on_decoded(standing: Standing, areas: &mut Areas, frame: &[u8], decoded: Fram
 // The areas keep the rules (25): the bytes are read as a frame, in the connection's version. What is read so, the latest version reads alike.
 fn on_bytes(standing: Standing, areas: &mut Areas, frame: &[u8]) -> Outcome
     requires rules { Rules standing.settings.shape areas.old.words.now areas.old.bytes.now }
-    requires record_rules_in { is_found standing.lookup ≡ true → RecordRulesIn standing.lookup areas.old.words.now areas.old.holds.now }
-    ensures is { Takes standing.settings standing.counters standing.lookup areas.old.row.now frame.now areas.old.words.now areas.new.words.now areas.old.bytes.now areas.new.bytes.now areas.old.holds.now areas.new.holds.now result }
+    requires record_rules_in { is_found standing.lookup ≡ true → RecordRulesIn standing.lookup areas.old.words.now (holds_of areas.old) }
+    ensures is { Takes standing.settings standing.counters standing.lookup areas.old.row.now frame.now areas.old.words.now areas.new.words.now areas.old.bytes.now areas.new.bytes.now (holds_of areas.old) (holds_of areas.new) result }
     ensures same { SameLent areas.old areas.new }
 {
     let counters = standing.counters;

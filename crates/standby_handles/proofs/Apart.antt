@@ -5,12 +5,13 @@ use mathlib.Core.List.{List, [], ◌∷◌}
 use mathlib.Core.Option.{Option, none, some}
 use Prim.Native.Nat.{ℕ, zero, suc, ◌<◌, ◌≤◌, min}
 use native.Mathlib.Omega.{arith}
-use lib.ListN.{length, set, take, drop}
+use lib.ListN.{length, set}
 use lib.Dec.{eqb, ltb}
 use borrow.Author.Tests.{eqb-true, lt-ltb, le-ltb, ltb-true, ltb-false}
 use Rattle.std.specs.Prelude.{Some, None}
 use Rattle.std.specs.Prelude as std
 use Rattle.std.specs.List.{list_any}
+use Rattle.standby_segments.specs.Segments.{Holds, Lengths}
 use Rattle.standby_row.specs.declared.Bound.{Bound as BoundRecord}
 use Rattle.standby_row.specs.Row.{is_used, is_of, is_free, zero_or_next, first_of, find_of, free_of, place_in, own_of, clashes, apart_of, is_rival, rival_at, rival_of, released_at, released, alone_at, spot_for}
 use Rattle.standby_row.specs.Row as handles
@@ -19,7 +20,7 @@ use Rattle.model_standby.specs.State.{Bound}
 use Rattle.model_standby.specs.Handles.{apart, without_others, room_at}
 use Rattle.model_standby.specs.Handles as model
 use Rattle.model_standby.proofs.Handles.{own_stays}
-use Rattle.standby_handles.specs.Rows.{row_of, part_at}
+use Rattle.standby_handles.specs.Rows.{first_area, areas_behind, area_at, row_of}
 use Rattle.standby_handles.proofs.Rows.{eqb_comm, find_miss, free_miss, apart_same, put_own, put_new}
 
 -- a record is used, and names the session place p
@@ -66,34 +67,40 @@ first_or p hs = go (ltb (first_of p hs) (length hs)) refl
     go true e = refl
     go false e = let over : length hs ≤ first_of p hs = ltb-false (first_of p hs) (length hs) e in let most : first_of p hs ≤ length hs = first_most p hs in omega arith
 
-module _ (bound_of : BoundRecord → List ℕ → Bound) (room : ℕ) (placed : (h : BoundRecord) (part : List ℕ) → (bound_of h part).place ≡ h.place) where
-  abbrev Entries : List BoundRecord → List ℕ → Row Bound
+module _ (bound_of : BoundRecord → Holds → Bound) (room : Lengths) (placed : (h : BoundRecord) (part : Holds) → (bound_of h part).place ≡ h.place) where
+  abbrev First : Holds → Holds
+  First holds = first_area room holds
+
+  abbrev Rest : Holds → Holds
+  Rest holds = areas_behind room holds
+
+  abbrev Entries : List BoundRecord → Holds → Row Bound
   Entries row holds = row_of bound_of room row holds
 
   -- what a record stands for, by whether it is used
-  abbrev Head : BoundRecord → List ℕ → Bool → Option (ℕ × Bound)
+  abbrev Head : BoundRecord → Holds → Bool → Option (ℕ × Bound)
   Head h part u = cond u (some (h.handle, bound_of h part)) none
 
   -- ---- the rule
 
-  pub handle_same : (k : ℕ) (row : List BoundRecord) (holds : List ℕ) → list_any (λ x. is_of x k) row ≡ is_some (find k (Entries row holds))
+  pub handle_same : (k : ℕ) (row : List BoundRecord) (holds : Holds) → list_any (λ x. is_of x k) row ≡ is_some (find k (Entries row holds))
   handle_same k [] holds = refl
-  handle_same k (h ∷ hs) holds = go (is_used h) (eqb k h.handle) refl (handle_same k hs (drop room holds))
+  handle_same k (h ∷ hs) holds = go (is_used h) (eqb k h.handle) refl (handle_same k hs (Rest holds))
     where
-      go : (u v : Bool) → eqb k h.handle ≡ v → list_any (λ x. is_of x k) hs ≡ is_some (find k (Entries hs (drop room holds)))
-          → ((u && eqb h.handle k) || list_any (λ x. is_of x k) hs) ≡ is_some (find k (Head h (take room holds) u ∷ Entries hs (drop room holds)))
+      go : (u v : Bool) → eqb k h.handle ≡ v → list_any (λ x. is_of x k) hs ≡ is_some (find k (Entries hs (Rest holds)))
+          → ((u && eqb h.handle k) || list_any (λ x. is_of x k) hs) ≡ is_some (find k (Head h (First holds) u ∷ Entries hs (Rest holds)))
       go false v q ih = ih
       go true true q ih = rw (eqb_comm h.handle k, q) refl
       go true false q ih = rw (eqb_comm h.handle k, q) ih
 
-  pub place_same : (p : ℕ) (row : List BoundRecord) (holds : List ℕ) → list_any (λ x. names_place x p) row ≡ model.names_place p (Entries row holds)
+  pub place_same : (p : ℕ) (row : List BoundRecord) (holds : Holds) → list_any (λ x. names_place x p) row ≡ model.names_place p (Entries row holds)
   place_same p [] holds = refl
-  place_same p (h ∷ hs) holds = go (is_used h) (place_same p hs (drop room holds))
+  place_same p (h ∷ hs) holds = go (is_used h) (place_same p hs (Rest holds))
     where
-      go : (u : Bool) → list_any (λ x. names_place x p) hs ≡ model.names_place p (Entries hs (drop room holds))
-          → ((u && eqb h.place p) || list_any (λ x. names_place x p) hs) ≡ model.names_place p (Head h (take room holds) u ∷ Entries hs (drop room holds))
+      go : (u : Bool) → list_any (λ x. names_place x p) hs ≡ model.names_place p (Entries hs (Rest holds))
+          → ((u && eqb h.place p) || list_any (λ x. names_place x p) hs) ≡ model.names_place p (Head h (First holds) u ∷ Entries hs (Rest holds))
       go false ih = ih
-      go true ih = rw (placed h (take room holds), eqb_comm h.place p, ih) refl
+      go true ih = rw (placed h (First holds), eqb_comm h.place p, ih) refl
 
   -- a record clashes with a later one: both are used, and for one handle or for one session place
   clash_split : (h : BoundRecord) (row : List BoundRecord) → list_any (clashes h) row ≡ (is_used h && (list_any (λ x. is_of x h.handle) row || list_any (λ x. names_place x h.place) row))
@@ -123,41 +130,41 @@ module _ (bound_of : BoundRecord → List ℕ → Bound) (room : ℕ) (placed : 
       → apart_of (h ∷ hs) ≡ (not (is_used h && (list_any (λ x. is_of x h.handle) hs || list_any (λ x. names_place x h.place) hs)) && apart_of hs)
   apart_split h hs = ap (λ (x : Bool). not x && apart_of hs) (clash_split h hs)
 
-  pub rows_apart : (row : List BoundRecord) (holds : List ℕ) → apart_of row ≡ apart (Entries row holds)
+  pub rows_apart : (row : List BoundRecord) (holds : Holds) → apart_of row ≡ apart (Entries row holds)
   rows_apart [] holds = refl
-  rows_apart (h ∷ hs) holds = apart_split h hs ∙ go (is_used h) (rows_apart hs (drop room holds)) (handle_same h.handle hs (drop room holds)) (place_same h.place hs (drop room holds))
+  rows_apart (h ∷ hs) holds = apart_split h hs ∙ go (is_used h) (rows_apart hs (Rest holds)) (handle_same h.handle hs (Rest holds)) (place_same h.place hs (Rest holds))
     where
-      go : (u : Bool) → apart_of hs ≡ apart (Entries hs (drop room holds))
-          → list_any (λ x. is_of x h.handle) hs ≡ is_some (find h.handle (Entries hs (drop room holds)))
-          → list_any (λ x. names_place x h.place) hs ≡ model.names_place h.place (Entries hs (drop room holds))
-          → (not (u && (list_any (λ x. is_of x h.handle) hs || list_any (λ x. names_place x h.place) hs)) && apart_of hs) ≡ apart (Head h (take room holds) u ∷ Entries hs (drop room holds))
+      go : (u : Bool) → apart_of hs ≡ apart (Entries hs (Rest holds))
+          → list_any (λ x. is_of x h.handle) hs ≡ is_some (find h.handle (Entries hs (Rest holds)))
+          → list_any (λ x. names_place x h.place) hs ≡ model.names_place h.place (Entries hs (Rest holds))
+          → (not (u && (list_any (λ x. is_of x h.handle) hs || list_any (λ x. names_place x h.place) hs)) && apart_of hs) ≡ apart (Head h (First holds) u ∷ Entries hs (Rest holds))
       go false ih a b = ih
-      go true ih a b = rw (placed h (take room holds), a, b, ih) refl
+      go true ih a b = rw (placed h (First holds), a, b, ih) refl
 
   -- ---- the room for a handle
 
-  own_same : (k : ℕ) (row : List BoundRecord) (holds : List ℕ) → is_some (find k (Entries row holds)) ≡ std.is_some (own_of row k)
+  own_same : (k : ℕ) (row : List BoundRecord) (holds : Holds) → is_some (find k (Entries row holds)) ≡ std.is_some (own_of row k)
   own_same k row holds = sym (handle_same k row holds) ∙ sym (there_is (λ x. is_of x k) row) ∙ sym (is_there (ltb (find_of row k) (length row)) (handles.found_at row (find_of row k)))
 
-  free_same : (k p : ℕ) (row : List BoundRecord) (holds : List ℕ)
+  free_same : (k p : ℕ) (row : List BoundRecord) (holds : Holds)
       → has_free (without_others k p (Entries row holds)) ≡ (list_any is_free row || list_any (λ x. is_rival x k p) row)
   free_same k p [] holds = refl
-  free_same k p (h ∷ hs) holds = go (is_used h) (eqb k h.handle) (eqb p h.place) refl refl (free_same k p hs (drop room holds))
+  free_same k p (h ∷ hs) holds = go (is_used h) (eqb k h.handle) (eqb p h.place) refl refl (free_same k p hs (Rest holds))
     where
       left : (a b : Bool) → true ≡ (a || (true || b))
       left true b = refl
       left false b = refl
 
-      go : (u v w : Bool) → eqb k h.handle ≡ v → eqb p h.place ≡ w → has_free (without_others k p (Entries hs (drop room holds))) ≡ (list_any is_free hs || list_any (λ x. is_rival x k p) hs)
-          → has_free (without_others k p (Head h (take room holds) u ∷ Entries hs (drop room holds)))
+      go : (u v w : Bool) → eqb k h.handle ≡ v → eqb p h.place ≡ w → has_free (without_others k p (Entries hs (Rest holds))) ≡ (list_any is_free hs || list_any (λ x. is_rival x k p) hs)
+          → has_free (without_others k p (Head h (First holds) u ∷ Entries hs (Rest holds)))
           ≡ ((not u || list_any is_free hs) || ((u && (not (eqb h.handle k) && eqb h.place p)) || list_any (λ x. is_rival x k p) hs))
       go false v w q r ih = refl
-      go true true w q r ih = rw (placed h (take room holds), eqb_comm h.handle k, q) ih
-      go true false true q r ih = rw (placed h (take room holds), eqb_comm h.place p, eqb_comm h.handle k, q, r) (left (list_any is_free hs) (list_any (λ x. is_rival x k p) hs))
-      go true false false q r ih = rw (placed h (take room holds), eqb_comm h.place p, eqb_comm h.handle k, q, r) ih
+      go true true w q r ih = rw (placed h (First holds), eqb_comm h.handle k, q) ih
+      go true false true q r ih = rw (placed h (First holds), eqb_comm h.place p, eqb_comm h.handle k, q, r) (left (list_any is_free hs) (list_any (λ x. is_rival x k p) hs))
+      go true false false q r ih = rw (placed h (First holds), eqb_comm h.place p, eqb_comm h.handle k, q, r) ih
 
   -- it is there: the handle's own place, a free one, or a rival's
-  pub room_same : (k p : ℕ) (row : List BoundRecord) (holds : List ℕ)
+  pub room_same : (k p : ℕ) (row : List BoundRecord) (holds : Holds)
       → room_at k (Entries row holds) p ≡ (std.is_some (own_of row k) || (std.is_some (place_in row (free_of row)) || std.is_some (rival_of row k p)))
   room_same k p row holds =
       rw (own_stays k p (Entries row holds), own_same k row holds, free_same k p row holds, found_some is_free row, found_some (λ x. is_rival x k p) row) refl
@@ -238,24 +245,24 @@ module _ (bound_of : BoundRecord → List ℕ → Bound) (room : ℕ) (placed : 
     pub alone_length : (row : List BoundRecord) → length (Alone row) ≡ length row
     alone_length row = ap (λ (x : List BoundRecord). length x) (alone_is row) ∙ released_length (rival_first row) row
 
-    released_rows : (row : List BoundRecord) (holds : List ℕ) → apart_of row ≡ true → Entries (released_at (rival_first row) row) holds ≡ without_others k p (Entries row holds)
+    released_rows : (row : List BoundRecord) (holds : Holds) → apart_of row ≡ true → Entries (released_at (rival_first row) row) holds ≡ without_others k p (Entries row holds)
     released_rows [] holds a = refl
     released_rows (h ∷ hs) holds a =
-        go (is_rival h k p) refl (released_rows hs (drop room holds) (rest_apart (is_used h) (list_any (λ x. is_of x h.handle) hs) (list_any (λ x. names_place x h.place) hs) (apart_of hs) split))
+        go (is_rival h k p) refl (released_rows hs (Rest holds) (rest_apart (is_used h) (list_any (λ x. is_of x h.handle) hs) (list_any (λ x. names_place x h.place) hs) (apart_of hs) split))
       where
         split : (not (is_used h && (list_any (λ x. is_of x h.handle) hs || list_any (λ x. names_place x h.place) hs)) && apart_of hs) ≡ true
         split = sym (apart_split h hs) ∙ a
 
-        part : List ℕ
-        part = take room holds
+        part : Holds
+        part = First holds
 
         t : Row Bound
-        t = Entries hs (drop room holds)
+        t = Entries hs (Rest holds)
 
         gone : Rival h k p → without_others k p (Head h part (is_used h) ∷ t) ≡ none ∷ t
         gone r =
             let unnamed : model.names_place h.place t ≡ false
-            = sym (place_same h.place hs (drop room holds)) ∙ rest_unnamed (is_used h) (list_any (λ x. is_of x h.handle) hs) (list_any (λ x. names_place x h.place) hs) (apart_of hs) r.used split in
+            = sym (place_same h.place hs (Rest holds)) ∙ rest_unnamed (is_used h) (list_any (λ x. is_of x h.handle) hs) (list_any (λ x. names_place x h.place) hs) (apart_of hs) r.used split in
             let here : without_others k p t ≡ t = none_named k p t (ap (λ (n : ℕ). model.names_place n t) (sym (eqb-true h.place p r.place)) ∙ unnamed) in
             ap (λ (u : Bool). without_others k p (Head h part u ∷ t)) r.used
             ∙ rw (placed h part, eqb_comm k h.handle, eqb_comm p h.place, r.other, r.place, here) refl
@@ -267,12 +274,12 @@ module _ (bound_of : BoundRecord → List ℕ → Bound) (room : ℕ) (placed : 
         stays true false true b c e = rw (placed h part, eqb_comm k h.handle, eqb_comm p h.place, b, c) refl
         stays true false false b c e = rw (placed h part, eqb_comm k h.handle, eqb_comm p h.place, b, c) refl
 
-        go : (q : Bool) → is_rival h k p ≡ q → Entries (released_at (rival_first hs) hs) (drop room holds) ≡ without_others k p t
+        go : (q : Bool) → is_rival h k p ≡ q → Entries (released_at (rival_first hs) hs) (Rest holds) ≡ without_others k p t
             → Entries (released_at (zero_or_next q (rival_first hs)) (h ∷ hs)) holds ≡ without_others k p (Head h part (is_used h) ∷ t)
         go true e ih = sym (gone (rival_is h k p e))
         go false e ih = ap (λ (x : Row Bound). Head h part (is_used h) ∷ x) ih ∙ sym (stays (is_used h) (eqb h.place p) (eqb h.handle k) refl refl e)
 
-    pub rows_released : (row : List BoundRecord) (holds : List ℕ) → apart_of row ≡ true → Entries (Alone row) holds ≡ without_others k p (Entries row holds)
+    pub rows_released : (row : List BoundRecord) (holds : Holds) → apart_of row ≡ true → Entries (Alone row) holds ≡ without_others k p (Entries row holds)
     rows_released row holds a = ap (λ (x : List BoundRecord). Entries x holds) (alone_is row) ∙ released_rows row holds a
 
     -- ---- what is found in it
@@ -312,7 +319,7 @@ module _ (bound_of : BoundRecord → List ℕ → Bound) (room : ℕ) (placed : 
     free_released row = ap (λ (x : List BoundRecord). free_of x) (alone_is row) ∙ released_free row
 
     -- ---- a handle is bound anew, and no other has its session place
-    module _ (g : BoundRecord) (used : is_used g ≡ true) (is : g.handle ≡ k) (row : List BoundRecord) (holds : List ℕ) (a : apart_of row ≡ true) (has : room_at k (Entries row holds) p ≡ true) where
+    module _ (g : BoundRecord) (used : is_used g ≡ true) (is : g.handle ≡ k) (row : List BoundRecord) (holds : Holds) (a : apart_of row ≡ true) (has : room_at k (Entries row holds) p ≡ true) where
       has_free_place : length (Alone row) ≤ find_of (Alone row) k → free_of (Alone row) < length (Alone row)
       has_free_place out = go (ltb (free_of (Alone row)) (length (Alone row))) refl
         where
@@ -326,13 +333,13 @@ module _ (bound_of : BoundRecord → List ℕ → Bound) (room : ℕ) (placed : 
               ∙ ap (λ (x : Option Bound). is_some x || has_free (Entries (Alone row) holds)) (find_miss bound_of room k (Alone row) holds out)
               ∙ free_miss bound_of room (Alone row) holds (ltb-false (free_of (Alone row)) (length (Alone row)) e)))
 
-      pub put_alone : Entries (set (Alone row) (spot_for (Alone row) k) g) holds ≡ put k (bound_of g (part_at bound_of room (spot_for (Alone row) k) holds)) (without_others k p (Entries row holds))
-      put_alone = go (ltb (find_of (Alone row) k) (length (Alone row))) refl ∙ ap (λ (x : Row Bound). put k (bound_of g (part_at bound_of room (spot_for (Alone row) k) holds)) x) (rows_released row holds a)
+      pub put_alone : Entries (set (Alone row) (spot_for (Alone row) k) g) holds ≡ put k (bound_of g (area_at room (spot_for (Alone row) k) holds)) (without_others k p (Entries row holds))
+      put_alone = go (ltb (find_of (Alone row) k) (length (Alone row))) refl ∙ ap (λ (x : Row Bound). put k (bound_of g (area_at room (spot_for (Alone row) k) holds)) x) (rows_released row holds a)
         where
           At : Bool → ℕ
           At t = cond t (find_of (Alone row) k) (free_of (Alone row))
 
-          go : (t : Bool) → ltb (find_of (Alone row) k) (length (Alone row)) ≡ t → Entries (set (Alone row) (At t) g) holds ≡ put k (bound_of g (part_at bound_of room (At t) holds)) (Entries (Alone row) holds)
+          go : (t : Bool) → ltb (find_of (Alone row) k) (length (Alone row)) ≡ t → Entries (set (Alone row) (At t) g) holds ≡ put k (bound_of g (area_at room (At t) holds)) (Entries (Alone row) holds)
           go true e =
               put_own bound_of room k g used is (Alone row) holds holds (ltb-true (find_of (Alone row) k) (length (Alone row)) e) (apart_same bound_of room (find_of (Alone row) k) holds)
           go false e = let out : length (Alone row) ≤ find_of (Alone row) k = ltb-false (find_of (Alone row) k) (length (Alone row)) e in put_new bound_of room k g used is (Alone row) holds out (has_free_place out)

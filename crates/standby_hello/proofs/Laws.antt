@@ -18,6 +18,7 @@ use Rattle.model_standby.specs.Store.{Place}
 use Rattle.model_standby.specs.State.{connected, checked_at}
 use Rattle.model_standby.specs.State as state
 use Rattle.model_standby.specs.Core.{Core, CoreResult, leave, clear, core_says, core_refuse, counting, core_unbound, core_hello, core_checked}
+use Rattle.standby_segments.specs.Segments.{Holds}
 use Rattle.standby_counters.specs.declared.Replica.{Replica}
 use Rattle.standby_state.specs.declared.Settings.{Settings}
 use Rattle.standby_state.specs.declared.Answer.{Answer}
@@ -30,7 +31,7 @@ use Rattle.standby_state.proofs.Exact.{exact_refused, exact_welcome, exact_nack,
 use Rattle.standby_hello.specs.Greeting.{connected_to, checked_to, Replies}
 
 -- where no record is put, nothing lands
-pub kept_lands : (seen : Lookup) (row : List Bound) (used room : ℕ) (area : List ℕ) (a : RowAction) → stores a ≡ false → Lands seen row used room area a
+pub kept_lands : (seen : Lookup) (row : List Bound) (used room : ℕ) (area : Holds) (a : RowAction) → stores a ≡ false → Lands seen row used room area a
 kept_lands seen row used room area RowAction.Leave e = tt
 kept_lands seen row used room area RowAction.Clear e = tt
 kept_lands seen row used room area (RowAction.Store at h) e = absurd (true≢false e)
@@ -45,13 +46,13 @@ module _ (c : Replica) (s : Settings) where
   pub as_left : (m : state.Settings → Core → CoreResult) {r : Outcome} {d : Replica} {x : Answer} → r ≡ leaving d x → ((b : List ℕ) → Exact b x)
       → ((room : ℕ) (b : List ℕ) (ps : List Place) (pending : List (ℕ × ℕ)) → record { core = At d ps pending; action = leave; answer = answer_of b x } ≡ m (settings_of s room) (At c ps pending))
       → Replies c s m r
-  as_left m {d = d} {x = x} e is-exact is = subst (Replies c s m) (sym e) (record { is = λ version room holds b ps pending. is room b ps pending; stays = refl; exact = is-exact })
+  as_left m {d = d} {x = x} e is-exact is = subst (Replies c s m) (sym e) (record { is = λ version room holds b ps pending. is room.bytes b ps pending; stays = refl; exact = is-exact })
 
   -- every record is freed
   as_cleared : (m : state.Settings → Core → CoreResult) {r : Outcome} {d : Replica} {x : Answer} → r ≡ clearing d x → ((b : List ℕ) → Exact b x)
       → ((room : ℕ) (b : List ℕ) (ps : List Place) (pending : List (ℕ × ℕ)) → record { core = At d ps []; action = clear; answer = answer_of b x } ≡ m (settings_of s room) (At c ps pending))
       → Replies c s m r
-  as_cleared m {d = d} {x = x} e is-exact is = subst (Replies c s m) (sym e) (record { is = λ version room holds b ps pending. is room b ps pending; stays = refl; exact = is-exact })
+  as_cleared m {d = d} {x = x} e is-exact is = subst (Replies c s m) (sym e) (record { is = λ version room holds b ps pending. is room.bytes b ps pending; stays = refl; exact = is-exact })
 
   -- ---- Hello
 

@@ -6,6 +6,7 @@ use Rattle.frame_fields.specs.declared.Epoch.{Epoch}
 use Rattle.model_standby.specs.Store.{Place}
 use Rattle.model_standby.specs.State as state
 use Rattle.model_standby.specs.Core.{Core, CoreResult, core_hello, core_checked}
+use Rattle.standby_segments.specs.Segments.{Holds, Lengths}
 use Rattle.standby_counters.specs.declared.Replica.{Replica}
 use Rattle.standby_state.specs.declared.Settings.{Settings}
 use Rattle.standby_state.specs.declared.Outcome.{Outcome}
@@ -22,13 +23,13 @@ checked_to c e = record { epoch = e; connections = c.connections; promoted = c.p
 
 -- equal to the definition m, whatever the places, the pending commits and the hold areas; no record is put
 pub record Replies (c : Replica) (s : Settings) (m : state.Settings → Core → CoreResult) (r : Outcome) : Type 0 where
-  pub is : (version room : ℕ) (holds b : List ℕ) (ps : List Place) (pending : List (ℕ × ℕ))
+  pub is : (version : ℕ) (room : Lengths) (holds : Holds) (b : List ℕ) (ps : List Place) (pending : List (ℕ × ℕ))
       → record {
         core = record { counters = counters_of r.replica; places = ps; pending = cond (clears r.action) [] pending };
         action = action_of version room holds r;
         answer = answer_of b r.answer;
       }
-      ≡ m (settings_of s room) (record { counters = counters_of c; places = ps; pending = pending })
+      ≡ m (settings_of s room.bytes) (record { counters = counters_of c; places = ps; pending = pending })
   pub stays : stores r.action ≡ false
   pub exact : (b : List ℕ) → Exact b r.answer
 

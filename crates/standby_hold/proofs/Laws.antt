@@ -18,7 +18,8 @@ use Rattle.model_standby.specs.Standby.{max_whole, starts_with_reset}
 use Rattle.frame_op.specs.Answers.{held_run}
 use Rattle.model_frame.proofs.Le.{are_bytes, bytes_take}
 use Rattle.standby_changes.specs.Held.{TakesAll}
-use Rattle.standby_changes.proofs.Held.{held_sizes}
+use Rattle.standby_segments.specs.Segments.{Holds, held_changes, held_in}
+use Rattle.standby_segments.proofs.Meaning.{held_short}
 use Rattle.standby_hold.specs.declared.HoldError.{HoldError}
 use Rattle.standby_hold.specs.Holding.{sum_of, hold_refusal_for, HoldIs}
 
@@ -33,11 +34,13 @@ positive (set_created_at t) = omega arith
 positive (set_marks m) = omega arith
 
 -- the first bytes of an area, as they are lent
-pub front : (version len : ℕ) (area : List ℕ) {used : ℕ} → used ≡ sizes (held_run version (take (len - 0) (drop 0 area))) → used ≡ sizes (held_run version (take len area))
-front version len area e = e ∙ ap (λ (k : ℕ). sizes (held_run version (take k area))) (sub-zero len)
+pub front : (version len : ℕ) (area : Holds) {used : ℕ} → used ≡ sizes (held_changes version area.ends (take (len - 0) (drop 0 area.bytes))) → used ≡ sizes (held_in version area len)
+front version len area e = e ∙ ap (λ (k : ℕ). sizes (held_changes version area.ends (take k area.bytes))) (sub-zero len)
 
-pub within : (version len : ℕ) (area : List ℕ) {used : ℕ} → ((i : ℕ) → get_or area i 0 < 256) → used ≡ sizes (held_run version (take len area)) → used ≤ length area
-within version len area known u = omega (arith, u, held_sizes version (take len area) (bytes_take len area (are_bytes area known)), length-take len area)
+pub within : (version len : ℕ) (area : Holds) {used : ℕ} → ((i : ℕ) → get_or area.bytes i 0 < 256) → used ≡ sizes (held_in version area len) → (used ≤ length area.bytes) × (used ≤ len)
+within version len area known u =
+    let short : sizes (held_in version area len) ≤ length (take len area.bytes) = held_short version area.ends (take len area.bytes) (bytes_take len area.bytes (are_bytes area.bytes known)) in
+    (omega (arith, u, short, length-take len area.bytes), omega (arith, u, short, length-take len area.bytes))
 
 -- no changes are no bytes
 pub empty_size : (cs : List Change) → is_empty cs ≡ eqb (sizes cs) 0
@@ -47,11 +50,11 @@ empty_size (c ∷ cs) = sym (ne_eqb (sizes (c ∷ cs)) 0 (λ e. no e))
     no : size_of c + sizes cs ≡ 0 → ⊥
     no e = omega (arith, e, positive c)
 
-module _ (version : ℕ) (run area : List ℕ) (len sum : ℕ) {used before more s : ℕ} {lacks : Bool}
-    (u : used ≡ sizes (held_run version (take len area))) (b : before ≡ cond (eqb used 0) 0 sum) (m : more ≡ message_bytes (held_run version run)) (t : s ≡ min (before + more) 18446744073709551615)
+module _ (version : ℕ) (run : List ℕ) (area : Holds) (len sum : ℕ) {used before more s : ℕ} {lacks : Bool}
+    (u : used ≡ sizes (held_in version area len)) (b : before ≡ cond (eqb used 0) 0 sum) (m : more ≡ message_bytes (held_run version run)) (t : s ≡ min (before + more) 18446744073709551615)
     (l : lacks ≡ (eqb used 0 && not (starts_with_reset (held_run version run)))) (all : TakesAll version run) where
   abbrev H : List Change
-  H = held_run version (take len area)
+  H = held_in version area len
 
   abbrev cs : List Change
   cs = held_run version run
@@ -68,30 +71,30 @@ module _ (version : ℕ) (run area : List ℕ) (len sum : ℕ) {used before more
   size : length run ≡ sizes cs
   size = sym all
 
-  pub no_reset : lacks ≡ true → HoldIs version run area len sum area (Err (record { why = HoldError.NoReset; held = record { used = used; sum = s } }))
-  no_reset h = record { refusal = sym (ap (λ (x : Bool). cond x 16 (cond (ltb max_whole (sum_of H sum cs)) 17 (cond (ltb (length area) (sizes H + sizes cs)) 18 0))) (sym lacking ∙ h)); summed = total; ends = u; written = refl }
+  pub no_reset : lacks ≡ true → HoldIs version run area len sum area.bytes (Err (record { why = HoldError.NoReset; held = record { used = used; sum = s } }))
+  no_reset h = record { refusal = sym (ap (λ (x : Bool). cond x 16 (cond (ltb max_whole (sum_of H sum cs)) 17 (cond (ltb (length area.bytes) (sizes H + sizes cs)) 18 0))) (sym lacking ∙ h)); summed = total; ends = u; written = refl }
 
-  past_16 : lacks ≡ false → hold_refusal_for H sum cs (length area) ≡ cond (ltb max_whole s) 17 (cond (ltb (length area) (sizes H + sizes cs)) 18 0)
+  past_16 : lacks ≡ false → hold_refusal_for H sum cs (length area.bytes) ≡ cond (ltb max_whole s) 17 (cond (ltb (length area.bytes) (sizes H + sizes cs)) 18 0)
   past_16 h =
-      ap (λ (x : Bool). cond x 16 (cond (ltb max_whole (sum_of H sum cs)) 17 (cond (ltb (length area) (sizes H + sizes cs)) 18 0))) (sym lacking ∙ h)
-      ∙ ap (λ (k : ℕ). cond (ltb max_whole k) 17 (cond (ltb (length area) (sizes H + sizes cs)) 18 0)) (sym total)
+      ap (λ (x : Bool). cond x 16 (cond (ltb max_whole (sum_of H sum cs)) 17 (cond (ltb (length area.bytes) (sizes H + sizes cs)) 18 0))) (sym lacking ∙ h)
+      ∙ ap (λ (k : ℕ). cond (ltb max_whole k) 17 (cond (ltb (length area.bytes) (sizes H + sizes cs)) 18 0)) (sym total)
 
-  pub too_much : lacks ≡ false → 4294967296 < s → HoldIs version run area len sum area (Err (record { why = HoldError.TooManyBytes; held = record { used = used; sum = s } }))
-  too_much h g = record { refusal = sym (past_16 h ∙ ap (λ (x : Bool). cond x 17 (cond (ltb (length area) (sizes H + sizes cs)) 18 0)) (lt-ltb max_whole s g)); summed = total; ends = u; written = refl }
+  pub too_much : lacks ≡ false → 4294967296 < s → HoldIs version run area len sum area.bytes (Err (record { why = HoldError.TooManyBytes; held = record { used = used; sum = s } }))
+  too_much h g = record { refusal = sym (past_16 h ∙ ap (λ (x : Bool). cond x 17 (cond (ltb (length area.bytes) (sizes H + sizes cs)) 18 0)) (lt-ltb max_whole s g)); summed = total; ends = u; written = refl }
 
-  past_17 : lacks ≡ false → s ≤ 4294967296 → hold_refusal_for H sum cs (length area) ≡ cond (ltb (length area) (used + length run)) 18 0
+  past_17 : lacks ≡ false → s ≤ 4294967296 → hold_refusal_for H sum cs (length area.bytes) ≡ cond (ltb (length area.bytes) (used + length run)) 18 0
   past_17 h g =
-      past_16 h ∙ ap (λ (x : Bool). cond x 17 (cond (ltb (length area) (sizes H + sizes cs)) 18 0)) (le-ltb max_whole s g)
-      ∙ ap (λ (k : ℕ). cond (ltb (length area) (k + sizes cs)) 18 0) (sym u) ∙ ap (λ (k : ℕ). cond (ltb (length area) (used + k)) 18 0) (sym size)
+      past_16 h ∙ ap (λ (x : Bool). cond x 17 (cond (ltb (length area.bytes) (sizes H + sizes cs)) 18 0)) (le-ltb max_whole s g)
+      ∙ ap (λ (k : ℕ). cond (ltb (length area.bytes) (k + sizes cs)) 18 0) (sym u) ∙ ap (λ (k : ℕ). cond (ltb (length area.bytes) (used + k)) 18 0) (sym size)
 
-  pub no_room : lacks ≡ false → s ≤ 4294967296 → length area < used + length run → HoldIs version run area len sum area (Err (record { why = HoldError.AreaFull; held = record { used = used; sum = s } }))
-  no_room h g r = record { refusal = sym (past_17 h g ∙ ap (λ (x : Bool). cond x 18 0) (lt-ltb (length area) (used + length run) r)); summed = total; ends = u; written = refl }
+  pub no_room : lacks ≡ false → s ≤ 4294967296 → length area.bytes < used + length run → HoldIs version run area len sum area.bytes (Err (record { why = HoldError.AreaFull; held = record { used = used; sum = s } }))
+  no_room h g r = record { refusal = sym (past_17 h g ∙ ap (λ (x : Bool). cond x 18 0) (lt-ltb (length area.bytes) (used + length run) r)); summed = total; ends = u; written = refl }
 
-  pub held : lacks ≡ false → s ≤ 4294967296 → used + length run ≤ length area → {area' : List ℕ} → area' ≡ write area used run
-      → HoldIs version run area len sum area' (Ok (record { used = used + length run; sum = s }))
-  held h g r {area'} w = record {
-    refusal = sym (past_17 h g ∙ ap (λ (x : Bool). cond x 18 0) (le-ltb (length area) (used + length run) r));
+  pub held : lacks ≡ false → s ≤ 4294967296 → used + length run ≤ length area.bytes → {bytes' : List ℕ} → bytes' ≡ write area.bytes used run
+      → HoldIs version run area len sum bytes' (Ok (record { used = used + length run; sum = s }))
+  held h g r {bytes'} w = record {
+    refusal = sym (past_17 h g ∙ ap (λ (x : Bool). cond x 18 0) (le-ltb (length area.bytes) (used + length run) r));
     summed = total;
     ends = ap (λ (k : ℕ). k + length run) u;
-    written = w ∙ ap (λ (k : ℕ). write area k run) u;
+    written = w ∙ ap (λ (k : ℕ). write area.bytes k run) u;
   }

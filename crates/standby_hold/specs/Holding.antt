@@ -1,5 +1,5 @@
 -- Holding a part of a session that is sent whole: 16, 17, 18, or its changes after those held. Assumes nothing.
-use Rattle.std.specs.Prelude.{◌≡◌, cond, not, ◌&&◌, List, ℕ, ◌+◌, min, length, take, ltb, eqb, Result, Ok, Err}
+use Rattle.std.specs.Prelude.{◌≡◌, cond, not, ◌&&◌, List, ℕ, ◌+◌, min, length, ltb, eqb, Result, Ok, Err}
 use Rattle.model_frame.specs.Refusal
 use Rattle.model_frame.specs.Bytes.{write}
 use Rattle.model_frame.specs.Frame.{Change}
@@ -8,6 +8,7 @@ use Rattle.model_frame.specs.Sizes.{sizes}
 use Rattle.model_session.specs.Session.{message_bytes, top}
 use Rattle.model_standby.specs.Standby.{max_whole, starts_with_reset}
 use Rattle.frame_op.specs.Answers.{held_run}
+use Rattle.standby_segments.specs.Segments.{Holds, held_in}
 use Rattle.standby_hold.specs.declared.HeldBytes.{HeldBytes}
 use Rattle.standby_hold.specs.declared.HoldError.{HoldError}
 use Rattle.standby_hold.specs.declared.NotHeld.{NotHeld}
@@ -39,9 +40,9 @@ abbrev pub told_held : Result HeldBytes NotHeld → HeldBytes
 told_held (Ok h) = h
 told_held (Err e) = e.held
 
--- over the area as it was and is, with so many bytes of it held, and their byte sum
-pub record HoldIs (version : ℕ) (run area : List ℕ) (len sum : ℕ) (area' : List ℕ) (r : Result HeldBytes NotHeld) : Type 0 where
-  pub refusal : hold_refusal r ≡ hold_refusal_for (held_run version (take len area)) sum (held_run version run) (length area)
-  pub summed : (told_held r).sum ≡ sum_of (held_run version (take len area)) sum (held_run version run)
-  pub ends : (told_held r).used ≡ cond (eqb (hold_refusal r) 0) (sizes (held_run version (take len area)) + length run) (sizes (held_run version (take len area)))
-  pub written : area' ≡ cond (eqb (hold_refusal r) 0) (write area (sizes (held_run version (take len area))) run) area
+-- over the area as it was and its bytes as they are, with so many bytes of it held, and their byte sum
+pub record HoldIs (version : ℕ) (run : List ℕ) (area : Holds) (len sum : ℕ) (bytes' : List ℕ) (r : Result HeldBytes NotHeld) : Type 0 where
+  pub refusal : hold_refusal r ≡ hold_refusal_for (held_in version area len) sum (held_run version run) (length area.bytes)
+  pub summed : (told_held r).sum ≡ sum_of (held_in version area len) sum (held_run version run)
+  pub ends : (told_held r).used ≡ cond (eqb (hold_refusal r) 0) (sizes (held_in version area len) + length run) (sizes (held_in version area len))
+  pub written : bytes' ≡ cond (eqb (hold_refusal r) 0) (write area.bytes (sizes (held_in version area len)) run) area.bytes

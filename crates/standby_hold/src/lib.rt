@@ -2,12 +2,11 @@
 #![tactic(auto)]
 
 ghost use Rattle.std.specs.Prelude.{◌≡◌, cond, not, ◌&&◌, ◌≤◌, length, eqb};
-ghost use Rattle.model_frame.specs.Sizes.{sizes};
 ghost use Rattle.model_standby.specs.Standby.{starts_with_reset};
 ghost use Rattle.frame_op.specs.Answers.{held_run};
+ghost use Rattle.standby_segments.specs.Segments.{hold_areas};
 ghost use Rattle.standby_hold.specs.Holding.{HoldIs};
 
-use frame_stamp::Protocol;
 use standby_changes::{AllChanges, Changes};
 use standby_counters::Replica;
 
@@ -51,21 +50,18 @@ fn lacks_reset(changes: &Changes, used: usize) -> bool
     used == 0 && !changes.starts_with_reset()
 }
 
-// How many of an area's bytes the changes held there take.
-fn held_length(protocol: Protocol, area: &[u8]) -> usize
-    ensures within { result ≤ length area.now }
-    ensures is { result ≡ sizes (held_run protocol.version area.now) }
-{
-    Changes::new(protocol, area).run_length()
-}
-
 // Writes a run of changes after those held in the first bytes of the area, whose number and messages' byte sum are given.
-pub fn hold(all: &AllChanges, area: &mut [u8], held: HeldBytes) -> Result<HeldBytes, NotHeld>
+pub fn hold(
+    all: &AllChanges,
+    area: &mut [u8],
+    ends: &[u64],
+    held: HeldBytes,
+) -> Result<HeldBytes, NotHeld>
     requires { held.used ≤ length area.old }
-    ensures { HoldIs all.now.changes.protocol.version all.now.changes.run.now area.old held.used held.sum area.new result }
+    ensures { HoldIs all.now.changes.protocol.version all.now.changes.run.now (hold_areas area.old ends.now) held.used held.sum area.new result }
 {
     let changes = &all.changes;
-    let used = held_length(changes.protocol, &area[0..held.used]);
+    let used = standby_segments::held_length(changes.protocol, &area[0..held.used], ends);
     let sum = counted(used, held.sum).saturating_add(changes.message_bytes());
     let end = used + changes.run.len();
     let held = HeldBytes { used, sum };

@@ -11,6 +11,7 @@ use Rattle.base_flags.specs.Flag.{is_set}
 use Rattle.base_flags.proofs.Flags.{set_so, clear_so}
 use Rattle.standby_row.specs.declared.Bound.{Bound}
 use Rattle.standby_row.specs.declared.lookup.Lookup.{Lookup}
+use Rattle.standby_segments.specs.Segments.{Holds}
 use Rattle.store_areas.specs.declared.Shape.{Shape}
 use Rattle.store_areas.specs.Areas.{words_at, bytes_at, allowed, Rules}
 use Rattle.store_areas.proofs.Ruling.{rules_of}
@@ -60,12 +61,12 @@ promoted_is s lag c w b r {w1} {w'} {b'} first t₁ e₀ e₁ e₂ =
 -- ---- each call
 
 -- the areas at the end, by whichever names
-pub at_end : {s : Settings} {c : Replica} {seen : Lookup} {row : List Bound} {call : Call} {w x x' b y y' h : List ℕ} {r : Outcome} → StepIs s c seen row call w x b y h h r → x' ≡ x → y' ≡ y → StepIs s c seen row call w x' b y' h h r
+pub at_end : {s : Settings} {c : Replica} {seen : Lookup} {row : List Bound} {call : Call} {w x x' b y y' : List ℕ} {h : Holds} {r : Outcome} → StepIs s c seen row call w x b y h h r → x' ≡ x → y' ≡ y → StepIs s c seen row call w x' b y' h h r
 at_end {s} {c} {seen} {row} {call} {w} {x} {x'} {b} {y} {y'} {h} {r} p e f = subst (λ (u : List ℕ). StepIs s c seen row call w u b y' h h r) (sym e) (subst (λ (v : List ℕ). StepIs s c seen row call w x b v h h r) (sym f) p)
 
-module _ (s : Settings) (c : Replica) (seen : Lookup) (row : List Bound) (w b h : List ℕ) where
+module _ (s : Settings) (c : Replica) (seen : Lookup) (row : List Bound) (w b : List ℕ) (h : Holds) where
   abbrev Sound : Bool
-  Sound = seen_allowed s.shape seen w b h
+  Sound = seen_allowed s.shape seen w b h.bytes
 
   abbrev Was : Core
   Was = core_at (counters_of c) s.shape w b
@@ -90,7 +91,7 @@ module _ (s : Settings) (c : Replica) (seen : Lookup) (row : List Bound) (w b h 
 
   -- the rules are kept
   module _ (on : Sound ≡ true) where
-    stepped : (call : Call) {w' b' h' : List ℕ} {r : Outcome} → Exact b' r.answer → Stepped s c seen row call w w' b b' h h' r → StepIs s c seen row call w w' b b' h h' r
+    stepped : (call : Call) {w' b' : List ℕ} {h' : Holds} {r : Outcome} → Exact b' r.answer → Stepped s c seen row call w w' b b' h h' r → StepIs s c seen row call w w' b b' h h' r
     stepped call is-exact g = record { refuses = λ off. absurd (true≢false (sym on ∙ off)); steps = λ _ own. g; exact = is-exact }
 
     -- ---- flush
@@ -99,7 +100,7 @@ module _ (s : Settings) (c : Replica) (seen : Lookup) (row : List Bound) (w b h 
       abbrev Flush : Bool → CoreResult
       Flush t = cond t (core_refuse Was leave 22) (core_done (core_run true Was) leave)
 
-      flush_by : (t : Bool) → (not (eqb n c.connections) || is_set c.promoted) ≡ t → core_step (settings_of s (room_in seen h)) Was (found_in seen h) (rooms_in seen row 0) (flush n) ≡ Flush t
+      flush_by : (t : Bool) → (not (eqb n c.connections) || is_set c.promoted) ≡ t → core_step (settings_of s (room_in seen h.bytes)) Was (found_in seen h) (rooms_in seen row 0) (flush n) ≡ Flush t
       unfolding core_step
       flush_by t e = ap Flush e
 
@@ -132,7 +133,7 @@ module _ (s : Settings) (c : Replica) (seen : Lookup) (row : List Bound) (w b h 
       abbrev Lost : Bool → CoreResult
       Lost t = cond t (core_done (core_unbound Was) clear) (core_done Was leave)
 
-      lost_by : (t : Bool) → eqb n c.connections ≡ t → core_step (settings_of s (room_in seen h)) Was (found_in seen h) (rooms_in seen row 0) (disconnected_from n) ≡ Lost t
+      lost_by : (t : Bool) → eqb n c.connections ≡ t → core_step (settings_of s (room_in seen h.bytes)) Was (found_in seen h) (rooms_in seen row 0) (disconnected_from n) ≡ Lost t
       unfolding core_step
       lost_by t e = ap Lost e
 
@@ -172,13 +173,13 @@ module _ (s : Settings) (c : Replica) (seen : Lookup) (row : List Bound) (w b h 
     -- ---- promotion
 
     abbrev Promote : Bool → CoreResult
-    Promote t = cond t (core_done (core_promotion (settings_of s (room_in seen h)) Was) clear) (core_refuse Was leave 23)
+    Promote t = cond t (core_done (core_promotion (settings_of s (room_in seen h.bytes)) Was) clear) (core_refuse Was leave 23)
 
-    promote_by : (t : Bool) → is_set c.checked ≡ t → core_step (settings_of s (room_in seen h)) Was (found_in seen h) (rooms_in seen row 0) promote ≡ Promote t
+    promote_by : (t : Bool) → is_set c.checked ≡ t → core_step (settings_of s (room_in seen h.bytes)) Was (found_in seen h) (rooms_in seen row 0) promote ≡ Promote t
     unfolding core_step
     promote_by t e = ap Promote e
 
-    unchecked_by : core_step (settings_of s (room_in seen h)) Was (found_in seen h) (rooms_in seen row 0) promote_unchecked ≡ Promote true
+    unchecked_by : core_step (settings_of s (room_in seen h.bytes)) Was (found_in seen h) (rooms_in seen row 0) promote_unchecked ≡ Promote true
     unfolding core_step
     unchecked_by = refl
 

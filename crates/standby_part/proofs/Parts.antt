@@ -4,14 +4,14 @@ use mathlib.Core.Bool.{Bool, true, false, cond, not, true≢false}
 use mathlib.Core.List.{List, [], ◌∷◌, ◌++◌}
 use Prim.Native.Nat.{ℕ, ◌<◌}
 use native.Mathlib.Omega.{arith}
-use lib.ListN.{length, get_or, take}
+use lib.ListN.{length, get_or}
 use Rattle.base_refusals.specs.declared.Refusal.{Refusal}
 use Rattle.model_frame.specs.Frame.{Part, Change, commit, diverged, ack, nack}
 use Rattle.model_frame.specs.Parse.{is_empty}
 use Rattle.model_frame.specs.Sizes.{sizes}
 use Rattle.model_session.specs.Session.{fits}
-use Rattle.frame_op.specs.Answers.{held_run}
-use Rattle.standby_changes.proofs.Held.{held_none}
+use Rattle.standby_segments.specs.Segments.{Holds, held_in}
+use Rattle.standby_segments.proofs.Meaning.{none_held}
 use Rattle.frame_fields.specs.declared.CommitNumber.{CommitNumber}
 use Rattle.standby_row.specs.declared.Bound.{Bound as BoundRecord}
 use Rattle.store_areas.specs.declared.Shape.{Shape}
@@ -25,7 +25,7 @@ use Rattle.model_standby.specs.State.{Settings, Counters, Bound, numbered}
 use Rattle.model_standby.specs.Core.{leave, store, CoreResult, core_says, core_refuse, core_settle, core_part}
 use Rattle.standby_part.specs.declared.PartResult.{PartResult}
 use Rattle.standby_part.specs.State.{bound_of, core_at, settings_for, holding_to}
-use Rattle.standby_part.specs.Part.{SettledIs, PartIs}
+use Rattle.standby_part.specs.Part.{settled_of, SettledIs, PartIs}
 
 -- what is left of a Commit or LastWhole once it is settled, as the definition has it
 module _ (s : Shape) (h : ℕ) (cs : List Change) (w w' b b' : List ℕ) (yes : Bool) (x : Bound) (n : ℕ) (used : x.place < get_or w 0 0) (g : Settles s x.place h cs w w' b b' yes)
@@ -54,9 +54,14 @@ module _ (s : Shape) (h : ℕ) (cs : List Change) (w w' b b' : List ℕ) (yes : 
       go true p q = λ j. record { core = record { counters = c; places = sym p j; pending = sym q j }; action = store h (numbered n x); answer = reply (ack h n) }
       go false p q = λ j. record { core = record { counters = c; places = sym p j; pending = sym q j }; action = store h x; answer = reply (nack h diverged) }
 
+-- what is given, by whether the changes were applied
+pub settled_so : {s : Shape} {h : BoundRecord} {n : CommitNumber} {cs : List Change} {w w' b b' : List ℕ} (applied : Bool) → Settles s h.place h.handle cs w w' b b' applied → SettledIs s h n cs w w' b b' (settled_of h n applied)
+settled_so true k = record { settles = k; is = refl }
+settled_so false k = record { settles = k; is = refl }
+
 -- ---- a part that is settled, with no bytes held then: `rest` is what the definition goes on with, and `sum` its byte sum
 
-module _ (version : ℕ) (s : Shape) (h : BoundRecord) (n : CommitNumber) (part : Part) (cs all : List Change) (w b area area' : List ℕ) (rest : List Change) (sum : ℕ) (used : h.place < get_or w 0 0) where
+module _ (version : ℕ) (s : Shape) (h : BoundRecord) (n : CommitNumber) (part : Part) (cs all : List Change) (w b : List ℕ) (area area' : Holds) (rest : List Change) (sum : ℕ) (used : h.place < get_or w 0 0) where
   abbrev X : Bound
   X = record { place = h.place; number = h.commit_no.0; held = rest; bytes = sum }
 
@@ -66,13 +71,13 @@ module _ (version : ℕ) (s : Shape) (h : BoundRecord) (n : CommitNumber) (part 
   -- the definition settles it so
   abbrev pub GoesTo : Type 0
   GoesTo = (c : Counters) (incarnation lag : ℕ)
-      → core_part (settings_for s (length area) incarnation lag) (core_at c s w b) h.handle (bound_of version h area) n.0 part cs
-      ≡ core_settle (settings_for s (length area) incarnation lag) (core_at c s w b) h.handle X n.0 all
+      → core_part (settings_for s (length area.bytes) incarnation lag) (core_at c s w b) h.handle (bound_of version h area) n.0 part cs
+      ≡ core_settle (settings_for s (length area.bytes) incarnation lag) (core_at c s w b) h.handle X n.0 all
 
-  nothing : held_run version (take 0 area') ≡ []
-  nothing = held_none version [] (omega arith)
+  nothing : held_in version area' 0 ≡ []
+  nothing = none_held version area'.ends
 
-  pub settled_part : held_run version (take 0 area') ≡ rest → GoesTo → ((t : Bool) → cond t (commits h.handle h.place) stays ≡ batch_change h.handle h.place part t)
+  pub settled_part : held_in version area' 0 ≡ rest → GoesTo → ((t : Bool) → cond t (commits h.handle h.place) stays ≡ batch_change h.handle h.place part t)
       → {w' b' : List ℕ} {d : PartResult} → SettledIs s H₀ n all w w' b b' d → PartIs version s h n.0 part cs w w' b b' area area' d
   settled_part none on change {w'} {b'} {d} g = subst (PartIs version s h n.0 part cs w w' b b' area area') (sym g.is) (go _ g.settles)
     where
@@ -80,7 +85,7 @@ module _ (version : ℕ) (s : Shape) (h : BoundRecord) (n : CommitNumber) (part 
       go true k = record {
         is = λ c incarnation lag.
             (λ j. record { core = core_at c s w' b'; action = store h.handle (record { place = h.place; number = n.0; held = none j; bytes = sum }); answer = reply (ack h.handle n.0) })
-            ∙ sym (on c incarnation lag ∙ settle_is s h.handle all w w' b b' true X n.0 used k c (length area) incarnation lag);
+            ∙ sym (on c incarnation lag ∙ settle_is s h.handle all w w' b b' true X n.0 used k c (length area.bytes) incarnation lag);
         rules = k.rules;
         store_after = subst (λ x. StoreAfter s x w w' b b') (change true) k.store_after;
         slot = record { place = refl; len = λ _. omega arith; held = sym (ap sizes nothing) };
@@ -88,7 +93,7 @@ module _ (version : ℕ) (s : Shape) (h : BoundRecord) (n : CommitNumber) (part 
       go false k = record {
         is = λ c incarnation lag.
             (λ j. record { core = core_at c s w' b'; action = store h.handle (record { place = h.place; number = h.commit_no.0; held = none j; bytes = sum }); answer = reply (nack h.handle diverged) })
-            ∙ sym (on c incarnation lag ∙ settle_is s h.handle all w w' b b' false X n.0 used k c (length area) incarnation lag);
+            ∙ sym (on c incarnation lag ∙ settle_is s h.handle all w w' b b' false X n.0 used k c (length area.bytes) incarnation lag);
         rules = k.rules;
         store_after = subst (λ x. StoreAfter s x w w' b b') (change false) k.store_after;
         slot = record { place = refl; len = λ _. omega arith; held = sym (ap sizes nothing) };
@@ -96,15 +101,15 @@ module _ (version : ℕ) (s : Shape) (h : BoundRecord) (n : CommitNumber) (part 
 
 -- ---- Commit
 
-module _ (version : ℕ) (s : Shape) (h : BoundRecord) (n : CommitNumber) (cs : List Change) (w b area : List ℕ) {t : Bool} (l : t ≡ is_empty (held_run version (take h.held_len area))) where
+module _ (version : ℕ) (s : Shape) (h : BoundRecord) (n : CommitNumber) (cs : List Change) (w b : List ℕ) (area : Holds) {t : Bool} (l : t ≡ is_empty (held_in version area h.held_len)) where
   abbrev H : List Change
-  H = held_run version (take h.held_len area)
+  H = held_in version area h.held_len
 
   pub commit_held : t ≡ false → Rules s w b → PartIs version s h n.0 commit cs w w b b area area (PartResult.Refused Refusal.ChangesHeld)
   unfolding core_part
   commit_held some r = record {
     is = λ c incarnation lag.
-        sym (ap (λ (t : Bool). cond (not t) (core_refuse (core_at c s w b) leave 15) (core_settle (settings_for s (length area) incarnation lag) (core_at c s w b) h.handle (bound_of version h area) n.0 cs)) (sym l ∙ some));
+        sym (ap (λ (t : Bool). cond (not t) (core_refuse (core_at c s w b) leave 15) (core_settle (settings_for s (length area.bytes) incarnation lag) (core_at c s w b) h.handle (bound_of version h area) n.0 cs)) (sym l ∙ some));
     rules = r;
     store_after = (refl, refl);
     slot = tt;
@@ -115,10 +120,10 @@ module _ (version : ℕ) (s : Shape) (h : BoundRecord) (n : CommitNumber) (cs : 
     past : GoesTo version s h n commit cs cs w b area area H h.held_bytes used
     unfolding core_part
     past c incarnation lag =
-        ap (λ (t : Bool). cond (not t) (core_refuse (core_at c s w b) leave 15) (core_settle (settings_for s (length area) incarnation lag) (core_at c s w b) h.handle (bound_of version h area) n.0 cs)) (sym l ∙ empty)
+        ap (λ (t : Bool). cond (not t) (core_refuse (core_at c s w b) leave 15) (core_settle (settings_for s (length area.bytes) incarnation lag) (core_at c s w b) h.handle (bound_of version h area) n.0 cs)) (sym l ∙ empty)
 
-    none_held_lem : held_run version (take 0 area) ≡ H
-    none_held_lem = held_none version [] (omega arith) ∙ sym (none_there H (sym l ∙ empty))
+    none_held_lem : held_in version area 0 ≡ H
+    none_held_lem = none_held version area.ends ∙ sym (none_there H (sym l ∙ empty))
       where
         none_there : (x : List Change) → is_empty x ≡ true → x ≡ []
         none_there [] e = refl

@@ -8,6 +8,7 @@ use mathlib.Core.List.{List, [], ◌++◌}
 use Prim.Native.Nat.{ℕ, ◌+◌, ◌<◌, ◌≤◌}
 use native.Mathlib.Omega.{arith}
 use lib.ListN.{length, get_or, take}
+use lib.Seq.{take-take}
 use lib.Dec.{ltb, T}
 use borrow.Author.Tests.{eqb-false, ltb-false}
 use Rattle.model_frame.specs.Bytes.{is_bytes}
@@ -15,10 +16,12 @@ use Rattle.model_frame.specs.Frame.{Part, Change, whole, last_whole, ack}
 use Rattle.model_frame.specs.Parse.{is_empty}
 use Rattle.model_frame.specs.Sizes.{sizes}
 use Rattle.model_frame.proofs.Runs.{sizes_append}
-use Rattle.model_frame.proofs.Le.{are_bytes}
+use Rattle.model_frame.proofs.Le.{are_bytes, bytes_take}
 use Rattle.frame_op.specs.Answers.{held_run}
 use Rattle.standby_changes.specs.Held.{TakesAll}
-use Rattle.standby_changes.proofs.Held.{held_written, held_in, held_none}
+use Rattle.standby_segments.specs.Segments.{Holds, hold_areas, closed_ends, held_changes, held_in, ends_after, with_run}
+use Rattle.standby_segments.proofs.Meaning.{none_held, held_again}
+use Rattle.standby_segments.proofs.Whole.{held_after, held_last, ends_by_used}
 use Rattle.frame_fields.specs.declared.CommitNumber.{CommitNumber}
 use Rattle.standby_row.specs.declared.Bound.{Bound}
 use Rattle.store_areas.specs.declared.Shape.{Shape}
@@ -30,7 +33,8 @@ use Rattle.standby_hold.specs.declared.NotHeld.{NotHeld}
 use Rattle.standby_hold.specs.Holding.{sum_of, hold_refusal, HoldIs}
 use Rattle.standby_hold.proofs.Laws.{within}
 use Rattle.model_standby.specs.Answer.{reply, refused}
-use Rattle.model_standby.specs.State.{Settings, Counters, none_held}
+use Rattle.model_standby.specs.State.{Settings, Counters}
+use Rattle.model_standby.specs.State as state
 use Rattle.model_standby.specs.Standby.{max_whole, starts_with_reset, summed, holding}
 use Rattle.model_standby.specs.Core.{leave, store, Core, CoreResult, core_says, core_refuse, core_settle, core_hold, core_part}
 use Rattle.standby_part.specs.State.{bound_of, core_at, settings_for, holding_to}
@@ -73,13 +77,13 @@ other k y go false true c n m = absurd (m refl)
 other k y go false false true n m = refl
 other k y go false false false n m = absurd (n refl)
 
-module _ (version : ℕ) (h : Bound) (n : CommitNumber) (run area : List ℕ) (s : Shape) (w b : List ℕ) (c : Counters) (incarnation lag : ℕ) (go : CoreResult)
-    {area' : List ℕ} {r : Result HeldBytes NotHeld} (g : HoldIs version run area h.held_len h.held_bytes area' r) where
+module _ (version : ℕ) (h : Bound) (n : CommitNumber) (run : List ℕ) (area : Holds) (s : Shape) (w b : List ℕ) (c : Counters) (incarnation lag : ℕ) (go : CoreResult)
+    {bytes' : List ℕ} {r : Result HeldBytes NotHeld} (g : HoldIs version run area h.held_len h.held_bytes bytes' r) where
   abbrev L : Settings
-  L = settings_for s (length area) incarnation lag
+  L = settings_for s (length area.bytes) incarnation lag
 
   abbrev H : List Change
-  H = held_run version (take h.held_len area)
+  H = held_in version area h.held_len
 
   abbrev cs : List Change
   cs = held_run version run
@@ -97,11 +101,11 @@ module _ (version : ℕ) (h : Bound) (n : CommitNumber) (run area : List ℕ) (s
   t2 = ltb max_whole (sum_of H h.held_bytes cs)
 
   abbrev t3 : Bool
-  t3 = ltb (length area) (sizes H + sizes cs)
+  t3 = ltb (length area.bytes) (sizes H + sizes cs)
 
   hold_tests : core_hold L k h.handle (bound_of version h area) cs go ≡ Tests (core_refuse k leave 16) X17 (core_refuse k leave 18) go t1 t2 t3
   unfolding core_hold
-  hold_tests = ap (λ (m : ℕ). cond t1 (core_refuse k leave 16) (cond t2 X17 (cond (ltb (length area) m) (core_refuse k leave 18) go))) (sizes_append H cs)
+  hold_tests = ap (λ (m : ℕ). cond t1 (core_refuse k leave 16) (cond t2 X17 (cond (ltb (length area.bytes) m) (core_refuse k leave 18) go))) (sizes_append H cs)
 
   pub hold_goes : hold_refusal r ≡ 0 → core_hold L k h.handle (bound_of version h area) cs go ≡ go
   hold_goes e = hold_tests ∙ when_0 (core_refuse k leave 16) X17 (core_refuse k leave 18) go t1 t2 t3 (sym g.refusal ∙ e)
@@ -116,21 +120,24 @@ module _ (version : ℕ) (h : Bound) (n : CommitNumber) (run area : List ℕ) (s
 -- ---- the refusals, of a Whole and of a LastWhole
 
 -- the part's definition goes on with `go` where nothing is refused
-abbrev pub GoesOn : ℕ → Bound → ℕ → Part → List ℕ → List ℕ → Shape → List ℕ → List ℕ → (Counters → ℕ → ℕ → CoreResult) → Type 0
+abbrev pub GoesOn : ℕ → Bound → ℕ → Part → List ℕ → Holds → Shape → List ℕ → List ℕ → (Counters → ℕ → ℕ → CoreResult) → Type 0
 GoesOn version h n part run area s w b go = (c : Counters) (incarnation lag : ℕ)
-    → core_part (settings_for s (length area) incarnation lag) (core_at c s w b) h.handle (bound_of version h area) n part (held_run version run)
-    ≡ core_hold (settings_for s (length area) incarnation lag) (core_at c s w b) h.handle (bound_of version h area) (held_run version run) (go c incarnation lag)
+    → core_part (settings_for s (length area.bytes) incarnation lag) (core_at c s w b) h.handle (bound_of version h area) n part (held_run version run)
+    ≡ core_hold (settings_for s (length area.bytes) incarnation lag) (core_at c s w b) h.handle (bound_of version h area) (held_run version run) (go c incarnation lag)
 
-module _ (version : ℕ) (h : Bound) (n : CommitNumber) (run area : List ℕ) (s : Shape) (w b : List ℕ) (rules : Rules s w b) (part : Part) (go : Counters → ℕ → ℕ → CoreResult) (on : GoesOn version h n.0 part run area s w b go)
-    (known : (i : ℕ) → get_or area i 0 < 256) (area' : List ℕ) where
+module _ (version : ℕ) (h : Bound) (n : CommitNumber) (run : List ℕ) (area : Holds) (s : Shape) (w b : List ℕ) (rules : Rules s w b) (part : Part) (go : Counters → ℕ → ℕ → CoreResult) (on : GoesOn version h n.0 part run area s w b go)
+    (known : (i : ℕ) → get_or area.bytes i 0 < 256) (bytes' : List ℕ) where
   abbrev J : List Change
-  J = held_run version (take h.held_len area)
+  J = held_in version area h.held_len
+
+  abbrev area' : Holds
+  area' = hold_areas bytes' area.ends
 
   abbrev Is : PartResult → Type 0
   Is d = PartIs version s h n.0 part (held_run version run) w w b b area area' d
 
   -- what was held stays so, and is counted
-  sum_kept : (x : HeldBytes) → HoldIs version run area h.held_len h.held_bytes area' (Err (record { why = HoldError.TooManyBytes; held = x })) → Is (not_held h x HoldError.TooManyBytes)
+  sum_kept : (x : HeldBytes) → HoldIs version run area h.held_len h.held_bytes bytes' (Err (record { why = HoldError.TooManyBytes; held = x })) → Is (not_held h x HoldError.TooManyBytes)
   sum_kept x g = record {
     is = λ c incarnation lag.
         (λ j. record {
@@ -141,14 +148,23 @@ module _ (version : ℕ) (h : Bound) (n : CommitNumber) (run area : List ℕ) (s
         ∙ sym (on c incarnation lag ∙ hold_sum version h n run area s w b c incarnation lag (go c incarnation lag) g refl);
     rules = rules;
     store_after = none_changed s h.handle h.place part w b refl;
-    slot = record { place = refl; len = λ _. within version h.held_len area known g.ends; held = g.ends ∙ sym (ap sizes front) };
+    slot = record { place = refl; len = λ _. (within version h.held_len area known g.ends).0; held = g.ends ∙ sym (ap sizes front) };
   }
     where
-      front : held_run version (take x.used area') ≡ J
-      front = (λ j. held_run version (take (g.ends j) (g.written j))) ∙ held_in version area h.held_len (are_bytes area known)
+      bs : T (is_bytes (take h.held_len area.bytes))
+      bs = bytes_take h.held_len area.bytes (are_bytes area.bytes known)
+
+      short : sizes J ≤ h.held_len
+      short = (within version h.held_len area known refl).1
+
+      front : held_in version area' x.used ≡ J
+      front =
+          (λ j. held_changes version area.ends (take (g.ends j) (g.written j)))
+          ∙ ap (held_changes version area.ends) (sym (take-take (sizes J) h.held_len area.bytes short))
+          ∙ held_again version area.ends (take h.held_len area.bytes) bs
 
   -- the two that change nothing
-  turned_down : (e : Refusal) (r : Result HeldBytes NotHeld) → HoldIs version run area h.held_len h.held_bytes area' r → hold_refusal r ≡ number_of e → (number_of e ≡ 0 → ⊥) → (number_of e ≡ 17 → ⊥) → Is (PartResult.Refused e)
+  turned_down : (e : Refusal) (r : Result HeldBytes NotHeld) → HoldIs version run area h.held_len h.held_bytes bytes' r → hold_refusal r ≡ number_of e → (number_of e ≡ 0 → ⊥) → (number_of e ≡ 17 → ⊥) → Is (PartResult.Refused e)
   turned_down e r g is zero seventeen = record {
     is = λ c incarnation lag.
         sym (on c incarnation lag
@@ -159,48 +175,53 @@ module _ (version : ℕ) (h : Bound) (n : CommitNumber) (run area : List ℕ) (s
     slot = tt;
   }
 
-  pub not_held_is : (x : HeldBytes) (e : HoldError) → HoldIs version run area h.held_len h.held_bytes area' (Err (record { why = e; held = x })) → Is (not_held h x e)
+  pub not_held_is : (x : HeldBytes) (e : HoldError) → HoldIs version run area h.held_len h.held_bytes bytes' (Err (record { why = e; held = x })) → Is (not_held h x e)
   not_held_is x HoldError.NoReset g = turned_down Refusal.NoReset _ g refl (eqb-false 16 0 refl) (eqb-false 16 17 refl)
   not_held_is x HoldError.TooManyBytes g = sum_kept x g
   not_held_is x HoldError.AreaFull g = turned_down Refusal.HoldAreaFull _ g refl (eqb-false 18 0 refl) (eqb-false 18 17 refl)
 
 -- ---- Whole
 
-module _ (version : ℕ) (h : Bound) (n : CommitNumber) (run area : List ℕ) where
+module _ (version : ℕ) (h : Bound) (n : CommitNumber) (run : List ℕ) (area : Holds) where
   abbrev K : List Change
-  K = held_run version (take h.held_len area)
+  K = held_in version area h.held_len
 
   pub whole_on : (s : Shape) (w b : List ℕ) → GoesOn version h n.0 whole run area s w b (λ c _ _. core_says (core_at c s w b) (store h.handle (holding (bound_of version h area) n.0 (held_run version run))) (ack h.handle n.0))
   unfolding core_part
   whole_on s w b c incarnation lag = refl
 
   abbrev pub Settle : Shape → List ℕ → List ℕ → Counters → ℕ → ℕ → CoreResult
-  Settle s w b c incarnation lag = core_settle (settings_for s (length area) incarnation lag) (core_at c s w b) h.handle (none_held (bound_of version h area)) n.0 (K ++ held_run version run)
+  Settle s w b c incarnation lag = core_settle (settings_for s (length area.bytes) incarnation lag) (core_at c s w b) h.handle (state.none_held (bound_of version h area)) n.0 (K ++ held_run version run)
 
   pub last_on : (s : Shape) (w b : List ℕ) → GoesOn version h n.0 last_whole run area s w b (Settle s w b)
   unfolding core_part
   last_on s w b c incarnation lag = refl
 
-  module _ (known : (i : ℕ) → get_or area i 0 < 256) (hr : T (is_bytes run)) (len : h.held_len ≤ length area) (all : TakesAll version run)
-      {area' : List ℕ} (x : HeldBytes) (g : HoldIs version run area h.held_len h.held_bytes area' (Ok x)) where
-    within_area : sizes K + length run ≤ length area
+  module _ (known : (i : ℕ) → get_or area.bytes i 0 < 256) (hr : T (is_bytes run)) (len : h.held_len ≤ length area.bytes) (all : TakesAll version run)
+      {bytes' : List ℕ} (x : HeldBytes) (g : HoldIs version run area h.held_len h.held_bytes bytes' (Ok x)) where
+    within_area : sizes K + length run ≤ length area.bytes
     within_area =
-        let room : ltb (length area) (sizes K + sizes (held_run version run)) ≡ false =
-        last_off (is_empty K && not (starts_with_reset (held_run version run))) (ltb max_whole (sum_of K h.held_bytes (held_run version run))) (ltb (length area) (sizes K + sizes (held_run version run))) (sym g.refusal) in
-        omega (arith, ltb-false (length area) (sizes K + sizes (held_run version run)) room, all)
+        let room : ltb (length area.bytes) (sizes K + sizes (held_run version run)) ≡ false =
+        last_off (is_empty K && not (starts_with_reset (held_run version run))) (ltb max_whole (sum_of K h.held_bytes (held_run version run))) (ltb (length area.bytes) (sizes K + sizes (held_run version run))) (sym g.refusal) in
+        omega (arith, ltb-false (length area.bytes) (sizes K + sizes (held_run version run)) room, all)
 
-    pub used_within : x.used ≤ length area
+    pub used_within : x.used ≤ length area.bytes
     used_within = omega (arith, within_area, g.ends)
 
-    -- what is held then: those before, and its own
-    held_now : held_run version (take x.used area') ≡ K ++ held_run version run
-    held_now =
-        let ha : T (is_bytes area) = are_bytes area known in
-        let front : held_run version (take (sizes K) area) ≡ K = held_in version area h.held_len ha in
-        ap (λ (m : ℕ). held_run version (take m area')) g.ends ∙ ap (λ (l : List ℕ). held_run version (take (sizes K + length run) l)) g.written
-        ∙ held_written version area (sizes K) run ha hr within_area (ap sizes front) ∙ ap (λ (l : List Change). l ++ held_run version run) front
+    ha : T (is_bytes area.bytes)
+    ha = are_bytes area.bytes known
 
-    pub whole_held : (s : Shape) (w b : List ℕ) → Rules s w b → PartIs version s h n.0 whole (held_run version run) w w b b area area' (PartResult.Accepted (holding_to h n x.used x.sum))
+    -- what is held then: those before, and its own
+    abbrev Closed : Holds
+    Closed = hold_areas bytes' (ends_after area.ends h.held_len x.used)
+
+    held_now : held_in version Closed x.used ≡ K ++ held_run version run
+    held_now = (λ j. held_changes version (ends_after area.ends h.held_len (g.ends j)) (take (g.ends j) (g.written j))) ∙ held_after version area.ends area.bytes run h.held_len ha hr all len within_area
+
+    pub whole_area : Closed ≡ with_run true (sizes K) run area
+    whole_area = λ j. record { bytes = g.written j; ends = (ap (ends_after area.ends h.held_len) g.ends ∙ ends_by_used version area.ends area.bytes run h.held_len ha hr all len within_area (sizes K + length run)) j }
+
+    pub whole_held : (s : Shape) (w b : List ℕ) → Rules s w b → PartIs version s h n.0 whole (held_run version run) w w b b area Closed (PartResult.Accepted (holding_to h n x.used x.sum))
     unfolding core_part
     whole_held s w b rules = record {
       is = λ c incarnation lag.
@@ -221,12 +242,16 @@ module _ (version : ℕ) (h : Bound) (n : CommitNumber) (run area : List ℕ) wh
 
     -- ---- LastWhole
 
+    -- by the words that counted before it
+    last_now : held_in version (hold_areas bytes' (closed_ends area.ends 0 h.held_len)) x.used ≡ K ++ held_run version run
+    last_now = (λ j. held_changes version (closed_ends area.ends 0 h.held_len) (take (g.ends j) (g.written j))) ∙ held_last version area.ends area.bytes run h.held_len ha hr all len within_area
+
     module _ (s : Shape) (w b : List ℕ) (used : h.place < get_or w 0 0) where
-      on : GoesTo version s h n last_whole (held_run version run) (K ++ held_run version run) w b area area' [] 0 used
+      on : GoesTo version s h n last_whole (held_run version run) (K ++ held_run version run) w b area (hold_areas bytes' area.ends) [] 0 used
       on c incarnation lag = last_on s w b c incarnation lag ∙ hold_goes version h n run area s w b c incarnation lag (Settle s w b c incarnation lag) g refl
 
-      pub last_settled : {w' b' : List ℕ} {d : PartResult} → SettledIs s (holding_to h h.commit_no 0 0) n (held_run version (take x.used area')) w w' b b' d
-          → PartIs version s h n.0 last_whole (held_run version run) w w' b b' area area' d
+      pub last_settled : {w' b' : List ℕ} {d : PartResult} → SettledIs s (holding_to h h.commit_no 0 0) n (held_in version (hold_areas bytes' (closed_ends area.ends 0 h.held_len)) x.used) w w' b b' d
+          → PartIs version s h n.0 last_whole (held_run version run) w w' b b' area (hold_areas bytes' area.ends) d
       last_settled {w'} {b'} {d} t =
-          settled_part version s h n last_whole (held_run version run) (K ++ held_run version run) w b area area' [] 0 used (held_none version [] (omega arith)) on (λ t. refl)
-          (subst (λ (l : List Change). SettledIs s (holding_to h h.commit_no 0 0) n l w w' b b' d) held_now t)
+          settled_part version s h n last_whole (held_run version run) (K ++ held_run version run) w b area (hold_areas bytes' area.ends) [] 0 used (none_held version area.ends) on (λ t. refl)
+          (subst (λ (l : List Change). SettledIs s (holding_to h h.commit_no 0 0) n l w w' b b' d) last_now t)

@@ -1,18 +1,18 @@
 -- What the code's state stands for: counters, one bound handle with its hold area, the store's places, the pending commits. Assumes nothing.
-use Rattle.std.specs.Prelude.{ℕ, List, take}
+use Rattle.std.specs.Prelude.{ℕ, List}
 use Rattle.model_frame.specs.Sizes.{sizes}
 use Rattle.frame_fields.specs.declared.CommitNumber.{CommitNumber}
 use Rattle.standby_row.specs.declared.Bound.{Bound as BoundRecord}
-use Rattle.frame_op.specs.Answers.{held_run}
+use Rattle.standby_segments.specs.Segments.{Holds, held_in}
 use Rattle.store_areas.specs.declared.Shape.{Shape}
 use Rattle.store_areas.specs.Areas.{places_of}
 use Rattle.standby_pending.specs.Pending.{pending_of}
 use Rattle.model_standby.specs.State.{Settings, Counters, Bound}
 use Rattle.model_standby.specs.Core.{Core}
 
--- the changes held are the longest run of valid ones in the first bytes of the hold area
-abbrev pub bound_of : ℕ → BoundRecord → List ℕ → Bound
-bound_of version h area = record { place = h.place; number = h.commit_no.0; held = held_run version (take h.held_len area); bytes = h.held_bytes }
+-- the changes held are those in the first bytes of the hold area, by its words
+abbrev pub bound_of : ℕ → BoundRecord → Holds → Bound
+bound_of version h area = record { place = h.place; number = h.commit_no.0; held = held_in version area h.held_len; bytes = h.held_bytes }
 
 -- and back: the record of the handle h that is bound so. It is used by a 1, and counts the bytes of the held changes in frame form: 0 where none is held
 abbrev pub record_for : ℕ → Bound → BoundRecord

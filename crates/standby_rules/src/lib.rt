@@ -30,7 +30,7 @@ pub fn keeps_rules(words: &[u64], bytes: &[u8], holds: &[u8], shape: Shape, look
         bytes,
         shape,
     };
-    let room = standby_batch_due::room_of(holds, lookup.len);
+    let room = standby_batch_due::room_of(holds.len(), lookup.len);
     let bound = found.bound;
     ((bound.place as u64) < view.words[word::USED]) & (bound.held_len <= room)
 }

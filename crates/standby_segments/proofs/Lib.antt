@@ -3,6 +3,5 @@ pub mod Total
 pub mod Meaning
 pub mod Whole
 pub mod Turns
-pub mod Places
 pub mod Following
 pub mod Examples

@@ -2,7 +2,7 @@
 use mathlib.Core.Path.{◌≡◌, refl, sym, ap, subst, ◌∙◌}
 use mathlib.Core.Bool.{Bool, true, false, true≢false}
 use mathlib.Core.List.{List, [], ◌∷◌}
-use Prim.Native.Nat.{ℕ, ◌+◌, ◌-◌, ◌≤◌, ◌<◌}
+use Prim.Native.Nat.{ℕ, suc, ◌+◌, ◌-◌, ◌≤◌, ◌<◌}
 use native.Mathlib.Omega.{arith}
 use lib.Dec.{T, eqb}
 use lib.ListN.{length, take, drop, length-drop}
@@ -19,7 +19,7 @@ use Rattle.model_frame.proofs.SoundChange.{TakenChange, change_sound}
 use Rattle.frame_op.specs.Answers.{held_run}
 use Rattle.standby_changes.proofs.Held.{held_stands, held_bad, held_more}
 use Rattle.standby_segments.specs.Segments.{closed_ends, open_from, segment_run, held_from, held_changes}
-use Rattle.standby_segments.proofs.Meaning.{Rises, rises, rises_up, held_length, held_short}
+use Rattle.standby_segments.proofs.Meaning.{none_held, Rises, rises, rises_up, held_length, held_short}
 use Rattle.standby_segments.proofs.Total.{total_taken, total_more, total_bad, total_none}
 
 module _ (version : ℕ) (s : List ℕ) (h : T (is_bytes s)) where
@@ -60,6 +60,14 @@ module _ (version : ℕ) (b : List ℕ) (at : ℕ) where
     next_bytes n = subst (λ (l : List ℕ). T (is_bytes l)) (drop-drop 1 at b ∙ ap (λ (k : ℕ). drop k b) (sym n.0)) (bytes_drop 1 (drop at b) h)
 
 -- ---- what is held
+
+-- with no bytes nothing is held
+pub no_bytes : (version : ℕ) (ends s : List ℕ) → true ≡ eqb (length s) 0 → true ≡ is_empty (held_changes version ends s)
+no_bytes version ends [] e = sym (ap is_empty (none_held version ends))
+no_bytes version ends (b ∷ bs) e = absurd (true≢false (e ∙ ne_eqb (suc (length bs)) 0 some))
+  where
+    some : suc (length bs) ≡ 0 → ⊥
+    some z = omega (arith, z)
 
 module _ (version : ℕ) (ends s : List ℕ) (h : T (is_bytes s)) {from : ℕ} (is : from ≡ open_from 0 (closed_ends ends 0 (length s))) where
   -- with no segment closed the first change is the open one's

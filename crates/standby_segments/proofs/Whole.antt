@@ -21,8 +21,8 @@ use Rattle.base_laws.proofs.Little.{write_is}
 use Rattle.frame_op.specs.Answers.{held_run}
 use Rattle.standby_changes.specs.Held.{TakesAll}
 use Rattle.standby_changes.proofs.Held.{held_cut, held_sizes, held_append}
-use Rattle.standby_segments.specs.Segments.{closed_ends, open_from, held_changes, segment_bytes, ends_after}
-use Rattle.standby_segments.proofs.Ends.{open_more, ends_alone, ends_cleared, ends_closed, ends_full}
+use Rattle.standby_segments.specs.Segments.{closed_ends, open_from, held_changes, segment_bytes, end_for, ends_after}
+use Rattle.standby_segments.proofs.Ends.{open_more, ends_alone, ends_shorter, ends_cleared, ends_closed, ends_full}
 use Rattle.standby_segments.proofs.Total.{total_held}
 use Rattle.standby_segments.proofs.Meaning.{closed_run, EachTakesAll, each_more, plain_on, Ends, From, Behind, held_parts, held_length, held_short, goes_on, is_closed, rise_too}
 
@@ -185,6 +185,10 @@ module _ (version : ℕ) where
           by (inr more) =
               subst (λ (es : List ℕ). EachTakesAll version es 0 After) (sym more)
               (each_more version (Ends version ends S bs) 0 (length After) After (rise_too version ends S bs After ends front_same (long_after ends)) (zero-add (length After)) kept (subst (λ (k : ℕ). TakesAll version (drop k After)) (sym (sub-zero (From version ends S bs))) open_all))
+
+      -- the words that count are the same by what the changes held take as by what the record says is held
+      pub ends_by_used : (n : ℕ) → ends_after ends len n ≡ ends_after ends Used n
+      ends_by_used n = ap (λ (es : List ℕ). set ends (length es) (end_for (open_from 0 es) n)) (ap (closed_ends ends 0) (sym size_s) ∙ sym (ends_shorter ends 0 (length S) Used low (held_short version ends S bs)))
 
       pub held_after : held_changes version (ends_after ends len (Used + length run)) After ≡ held_changes version ends S ++ held_run version run
       held_after =

@@ -1,6 +1,7 @@
 -- The changes held in a hold area: they stand in segments, closed ones and behind these the open one. Where closed segments end stand in words
 -- lent beside the hold area; every content of both means something. Assumes nothing.
-use Rattle.std.specs.Prelude.{ℕ, ◌≡◌, zero, suc, ◌+◌, ◌-◌, ◌*◌, ◌/◌, Bool, cond, ◌&&◌, List, [], ◌∷◌, ◌++◌, length, take, drop, set, eqb, ltb, leb}
+use Rattle.std.specs.Prelude.{ℕ, zero, suc, ◌+◌, ◌-◌, Bool, cond, ◌&&◌, List, [], ◌∷◌, ◌++◌, length, take, drop, set, ltb, leb}
+use Rattle.model_frame.specs.Bytes.{write}
 use Rattle.model_frame.specs.Frame.{Change, reset}
 use Rattle.model_frame.specs.Parse.{Res, ok, bad}
 use Rattle.model_frame.specs.Reading.{read_change}
@@ -61,16 +62,25 @@ end_for from len = cond (leb segment_bytes (len - from)) len 0
 abbrev pub ends_after : List ℕ → ℕ → ℕ → List ℕ
 ends_after ends held len = set ends (length (closed_ends ends 0 held)) (end_for (open_from 0 (closed_ends ends 0 held)) len)
 
--- ---- the words of each hold area: they are divided evenly among the row's places
+-- ---- hold areas: bytes, and the words that say where their closed segments end
 
-abbrev pub share_of : ℕ → ℕ → ℕ
-share_of words places = cond (eqb places 0) 0 (words / places)
+-- those of a place, or those of all places as they are lent
+pub record Holds : Type 0 where
+  pub bytes : List ℕ
+  pub ends : List ℕ
 
-abbrev pub ends_at : ℕ → ℕ → List ℕ → List ℕ
-ends_at places i ends = take (share_of (length ends) places) (drop (i * share_of (length ends) places) ends)
+abbrev pub hold_areas : List ℕ → List ℕ → Holds
+hold_areas bytes ends = record { bytes = bytes; ends = ends }
 
--- only the words of the row's place i may have changed, and these are
-pub record OwnOnly (places i : ℕ) (ends ends' after : List ℕ) : Type 0 where
-  pub own : ends_at places i ends' ≡ after
-  pub before : take (i * share_of (length ends) places) ends' ≡ take (i * share_of (length ends) places) ends
-  pub behind : drop (i * share_of (length ends) places + share_of (length ends) places) ends' ≡ drop (i * share_of (length ends) places + share_of (length ends) places) ends
+-- how many bytes and how many words each place has
+pub record Lengths : Type 0 where
+  pub bytes : ℕ
+  pub ends : ℕ
+
+-- THE CHANGES HELD in so many of its bytes
+abbrev pub held_in : ℕ → Holds → ℕ → List Change
+held_in version area len = held_changes version area.ends (take len area.bytes)
+
+-- a run of changes is written behind those held, which take so many bytes; after a Whole the segment that ends there is closed, or stays open
+abbrev pub with_run : Bool → ℕ → List ℕ → Holds → Holds
+with_run closes used run area = record { bytes = write area.bytes used run; ends = cond closes (ends_after area.ends used (used + length run)) area.ends }

@@ -1,10 +1,10 @@
 // The changes held of a session that is sent whole: segments of a hold area, closed ones and behind them the open one.
 #![tactic(auto)]
 
-ghost use Rattle.std.specs.Prelude.{◌≡◌, ◌+◌, ◌*◌, ◌≤◌, min, length, set};
+ghost use Rattle.std.specs.Prelude.{◌≡◌, ◌≤◌, length, set};
 ghost use Rattle.model_frame.specs.Parse.{is_empty};
 ghost use Rattle.model_frame.specs.Sizes.{sizes};
-ghost use Rattle.standby_segments.specs.Segments.{closed_ends, open_from, held_changes, end_for, ends_after, share_of, ends_at, OwnOnly};
+ghost use Rattle.standby_segments.specs.Segments.{closed_ends, open_from, held_changes, end_for, ends_after};
 ghost use Rattle.standby_segments.specs.Steps.{all_of, run_of, EndAt, BeginsOps, segments_left};
 
 mod fits;
@@ -128,6 +128,10 @@ impl<'a> HeldChanges<'a> {
     pub fn is_none(&self) -> bool
         ensures { result ≡ is_empty (all_of self.now) }
     {
+        // With no bytes the words aren't read: a Commit asks this of every handle.
+        if self.bytes.is_empty() {
+            return true;
+        }
         self.open_segment().from == 0 && Changes::new(self.protocol, self.bytes).is_none()
     }
 
@@ -159,40 +163,4 @@ impl<'a> Segment<'a> {
             closed: self.closed,
         }
     }
-}
-
-// ---- the words of the row's places
-
-// How many words each place has: they are divided evenly; none for a row without places.
-pub fn share_of(ends: &[u64], places: usize) -> usize
-    ensures { result ≡ share_of (length ends.now) places }
-{
-    ends.len().checked_div(places).unwrap_or(0)
-}
-
-// Where the words of the row's place begin and end.
-fn bounds_of(ends: &[u64], places: usize, place: usize) -> (usize, usize)
-    ensures start { result.0 ≡ min (place * share_of (length ends.now) places) (length ends.now) }
-    ensures end { result.1 ≡ min (result.0 + share_of (length ends.now) places) (length ends.now) }
-{
-    let share = share_of(ends, places);
-    let start = place.saturating_mul(share).min(ends.len());
-    let end = start.saturating_add(share).min(ends.len());
-    (start, end)
-}
-
-// The words of the row's place.
-pub fn ends_at(ends: &[u64], places: usize, place: usize) -> &[u64]
-    ensures { result.now ≡ ends_at places place ends.now }
-{
-    let (start, end) = bounds_of(ends, places, place);
-    &ends[start..end]
-}
-
-// After a Whole of the row's place: its words, and no other.
-pub fn close_at(ends: &mut [u64], places: usize, place: usize, held: usize, len: usize)
-    ensures { OwnOnly places place ends.old ends.new (ends_after (ends_at places place ends.old) held len) }
-{
-    let (start, end) = bounds_of(ends, places, place);
-    close(&mut ends[start..end], held, len);
 }

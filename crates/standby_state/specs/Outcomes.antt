@@ -1,10 +1,12 @@
 -- What a call's outcome stands for: the state but for the row, what is to be done to the row, and the answer. Assumes nothing.
-use Rattle.std.specs.Prelude.{ℕ, ◌*◌, ◌<◌, ◌≤◌, ◌≡◌, min, Bool, true, false, ◌||◌, List, take, drop, set, Option, is_some, unwrap_or}
+use Rattle.std.specs.Prelude.{ℕ, ◌<◌, ◌≤◌, ◌≡◌, min, Bool, true, false, ◌||◌, List, set, Option, is_some, unwrap_or}
 use Rattle.base_flags.specs.Flag.{is_set}
 use Rattle.frame_stamp.specs.Versions.{version_of}
+use Rattle.standby_segments.specs.Segments.{Holds, Lengths}
 use Rattle.standby_row.specs.declared.Bound.{Bound}
 use Rattle.standby_row.specs.declared.lookup.Lookup.{Lookup}
 use Rattle.standby_row.specs.Row.{cleared_all, released, rival_of, at_or, own_place, has_place}
+use Rattle.standby_handles.specs.Rows.{area_at}
 use Rattle.store_areas.specs.declared.Shape.{Shape}
 use Rattle.model_text.specs.Version.{latest}
 use Rattle.model_standby.specs.State.{Counters}
@@ -73,27 +75,23 @@ row_after RowAction.Clear row = cleared_all row
 row_after (RowAction.Store at h) row = set row at h
 row_after (RowAction.Rebind freed at h) row = set (released freed row) at h
 
--- ---- what it stands for, over the hold areas of `room` bytes each
+-- ---- what it stands for, over the hold areas, each as long as `room` says
 
--- the hold area of place i
-abbrev pub area_at : ℕ → ℕ → List ℕ → List ℕ
-area_at room i holds = take room (drop (i * room) holds)
-
-abbrev pub action_for : ℕ → ℕ → List ℕ → RowAction → Action
+abbrev pub action_for : ℕ → Lengths → Holds → RowAction → Action
 action_for version room holds RowAction.Leave = leave
 action_for version room holds RowAction.Clear = clear
 action_for version room holds (RowAction.Store at h) = store h.handle (bound_of version h (area_at room at holds))
 action_for version room holds (RowAction.Rebind freed at h) = rebind h.handle (bound_of version h (area_at room at holds))
 
-abbrev pub action_of : ℕ → ℕ → List ℕ → Outcome → Action
+abbrev pub action_of : ℕ → Lengths → Holds → Outcome → Action
 action_of version room holds o = action_for version room holds o.action
 
-abbrev pub outcome_of : ℕ → ℕ → Shape → List ℕ → List ℕ → List ℕ → Outcome → CoreResult
+abbrev pub outcome_of : ℕ → Lengths → Shape → List ℕ → List ℕ → Holds → Outcome → CoreResult
 outcome_of version room s w b holds o =
     record { core = core_at (counters_of o.replica) s w b; action = action_of version room holds o; answer = answer_of b o.answer }
 
 -- a record that is put fits the row: at the handle's own place, where the hold area is `area`; it is the record of what it stands for, at a place in use, and holds no more than the area has
-pub record Fits (seen : Lookup) (used room : ℕ) (area : List ℕ) (at : ℕ) (h : Bound) : Type 0 where
+pub record Fits (seen : Lookup) (used room : ℕ) (area : Holds) (at : ℕ) (h : Bound) : Type 0 where
   pub at_is : at ≡ own_place seen
   pub slot_is : h ≡ record_for h.handle (bound_of latest h area)
   pub slot_place : h.place < used
@@ -103,12 +101,12 @@ pub record Fits (seen : Lookup) (used room : ℕ) (area : List ℕ) (at : ℕ) (
 pub record Rebinds (seen : Lookup) (row : List Bound) (used : ℕ) (freed : Option ℕ) (at : ℕ) (h : Bound) : Type 0 where
   pub freed_is : freed ≡ rival_of row h.handle h.place
   pub at_is : at ≡ spot_of seen freed
-  pub slot_is : (area : List ℕ) → h ≡ record_for h.handle (bound_of latest h area)
+  pub slot_is : (area : Holds) → h ≡ record_for h.handle (bound_of latest h area)
   pub slot_place : h.place < used
   pub holds_none : h.held_len ≡ 0
 
 -- what is put, if anything is, fits the row
-abbrev pub Lands : Lookup → List Bound → ℕ → ℕ → List ℕ → RowAction → Type 0
+abbrev pub Lands : Lookup → List Bound → ℕ → ℕ → Holds → RowAction → Type 0
 Lands seen row used room area RowAction.Leave = Unit
 Lands seen row used room area RowAction.Clear = Unit
 Lands seen row used room area (RowAction.Store at h) = Fits seen used room area at h

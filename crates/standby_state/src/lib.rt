@@ -31,13 +31,14 @@ pub struct Standing {
     pub lookup: Lookup,
 }
 
-// What a call is lent: the row, which is only read; the store's words and bytes and the hold areas, which it may change. No rule is known of them: each call tests them.
+// What a call is lent: the row, which is only read; the store's words and bytes, the hold areas and the ends of their segments, which it may change. No rule is known of them: each call tests them.
 #[derive(Drop)]
 pub struct Areas<'a> {
     pub row: &'a [Bound],
     pub words: &'a mut [u64],
     pub bytes: &'a mut [u8],
     pub holds: &'a mut [u8],
+    pub ends: &'a mut [u64],
 }
 
 // What a Bound says of a session; its texts are parts of the store's byte area.

@@ -1,22 +1,22 @@
 -- From what a core says, of what was found in the row, to what a call promises. Assumes nothing.
 use mathlib.Core.Path.{◌≡◌, refl, sym, ap, subst, ◌∙◌}
 use mathlib.Core.Bool.{Bool, true, false, cond, ◌&&◌, ◌||◌, true≢false}
-use mathlib.Core.List.{List, []}
+use mathlib.Core.List.{List}
 use mathlib.Core.Option.{Option, none, some}
 use Prim.Native.Nat.{ℕ, ◌+◌, ◌*◌, ◌≤◌, ◌<◌, min}
 use native.Mathlib.Omega.{arith}
 use lib.Dec.{eqb, leb, ltb}
 use lib.ListN.{length, get_or, set, length-set}
 use borrow.Author.Tests.{ltb-true, ltb-false, lt-ltb}
-use Rattle.model_frame.specs.Bytes.{write}
 use Rattle.base_laws.proofs.Little.{length_write}
 use Rattle.std.specs.Prelude.{Option as RustOption}
 use Rattle.std.specs.Prelude as prelude
+use Rattle.standby_segments.specs.Segments.{Holds, Lengths, closed_ends}
 use Rattle.standby_row.specs.declared.lookup.Lookup.{Lookup}
 use Rattle.standby_row.specs.Row.{find_of, free_of, broken_of, rival_of, released, alone_at, spot_for, cleared_all, own_place, SeenOf}
 use Rattle.standby_row.specs.Row as handles
 use Rattle.standby_row.proofs.Lists.{cleared_length}
-use Rattle.standby_handles.specs.Rows.{row_of}
+use Rattle.standby_handles.specs.Rows.{area_at, row_of}
 use Rattle.standby_handles.proofs.Rows.{Apart, find_hit, find_miss, all_freed, apart_same, apart_of, put_own}
 use Rattle.standby_handles.proofs.Apart.{rows_apart, room_same, put_alone}
 use Rattle.store_areas.specs.Areas.{allowed, Rules, places_of}
@@ -42,30 +42,61 @@ use Rattle.standby_state.specs.declared.Settings.{Settings}
 use Rattle.standby_state.specs.declared.Outcome.{Outcome}
 use Rattle.standby_state.specs.Answers.{answer_of, is_refused}
 use Rattle.standby_state.specs.declared.RowAction.{RowAction}
-use Rattle.standby_state.specs.Outcomes.{counters_of, settings_of, leaving, spot_of, area_at, action_for, action_of, outcome_of, row_after, Fits, Rebinds, Lands}
-use Rattle.standby_step.specs.Steps.{room_of, room_in, found_in, rooms_in, handle_by, asks, keeps_counters, Leaves, holds_after, writes_by, Stepped, StepIs}
-use Rattle.standby_step.specs.Calls.{room_all, standby_of, allowed_all, sought_by, RowChange, row_by, RowPut, RowRebound, RowLeaves, CalledSteps, Called}
+use Rattle.standby_state.specs.Outcomes.{counters_of, settings_of, leaving, spot_of, action_for, action_of, outcome_of, row_after, Fits, Rebinds, Lands}
+use Rattle.standby_step.specs.Steps.{room_of, lengths_in, found_in, rooms_in, handle_by, asks, keeps_counters, Leaves, holds_after, closes_by, writes_by, Stepped, StepIs}
+use Rattle.standby_step.specs.Calls.{room_all, lengths_all, standby_of, allowed_all, sought_by, RowChange, row_by, RowPut, RowRebound, RowLeaves, CalledSteps, Called}
 use Rattle.standby_step.proofs.Naming.{sought_own}
 use Rattle.standby_step.proofs.Fitting.{Fit, step_fit, step_any, writes_none, written_inside, leaves_any}
 use Rattle.standby_step.proofs.Still.{refused_still}
 use Rattle.standby_step.proofs.Doing.{kind_of, done_by}
-use Rattle.standby_step.proofs.Rows.{Whole, whole_of, of_whole, whole_more, record_whole, whole_cleared, none_set, found_own, seen_found, seen_record, seen_place, seen_spot, seen_room, seen_allowed_lem, allowed_apart, and_l, and_r, whole_released, released_same, spot_alone, take_write, drop_write}
+use Rattle.standby_step.proofs.Rows.{Whole, whole_of, of_whole, whole_more, record_whole, whole_cleared, none_set, found_own, seen_found, seen_record, seen_place, seen_spot, seen_lengths, seen_allowed_lem, allowed_apart, and_l, and_r, whole_released, released_same, spot_alone, take_write, drop_write, take_end, drop_end, end_length}
 
 no : {A : Type 0} → true ≡ false → A
 no e = absurd (true≢false e)
 
--- the hold areas keep their length, and differ at one place
-holds_length : (room i : ℕ) (wr : Option HoldWrite) (h : List ℕ) → length (holds_after room i wr h) ≡ length h
-holds_length room i none h = refl
-holds_length room i (some x) h = length_write h (i * room + x.offset) x.bytes
+-- the hold areas keep their lengths, and differ at one place
+module _ (room : Lengths) (i : ℕ) (closes : Bool) where
+  holds_length : (wr : Option HoldWrite) (h : Holds) → length (holds_after room i closes wr h).bytes ≡ length h.bytes
+  holds_length none h = refl
+  holds_length (some x) h = length_write h.bytes (i * room.bytes + x.offset) x.bytes
 
-holds_apart : (room i : ℕ) (wr : Option HoldWrite) (h : List ℕ) → ((x : HoldWrite) → wr ≡ some x → x.offset + length x.bytes ≤ room) → Apart (bound_of latest) room i h (holds_after room i wr h)
-holds_apart room i none h inside = apart_same (bound_of latest) room i h
-holds_apart room i (some x) h inside =
-    let fits : x.offset + length x.bytes ≤ room = inside x refl in
-    let before : i * room ≤ i * room + x.offset = omega arith in
-    let after : i * room + x.offset + length x.bytes ≤ i * room + room = omega arith in
-    apart_of (bound_of latest) room i h (write h (i * room + x.offset) x.bytes) (take_write h (i * room + x.offset) (i * room) x.bytes before) (drop_write h (i * room + x.offset) (i * room + room) x.bytes after)
+  ends_length : (wr : Option HoldWrite) (h : Holds) → length (holds_after room i closes wr h).ends ≡ length h.ends
+  ends_length none h = refl
+  ends_length (some x) h = go closes
+    where
+      go : (t : Bool) → length (holds_after room i t (some x) h).ends ≡ length h.ends
+      go true = end_length room.ends i (closed_ends (area_at room i h).ends 0 x.offset) (x.offset + length x.bytes) h.ends
+      go false = refl
+
+  holds_apart : (wr : Option HoldWrite) (h : Holds) → ((x : HoldWrite) → wr ≡ some x → x.offset + length x.bytes ≤ room.bytes) → Apart (bound_of latest) room i h (holds_after room i closes wr h)
+  holds_apart none h inside = apart_same (bound_of latest) room i h
+  holds_apart (some x) h inside = go closes
+    where
+      fits : x.offset + length x.bytes ≤ room.bytes
+      fits = inside x refl
+
+      before : i * room.bytes ≤ i * room.bytes + x.offset
+      before = omega arith
+
+      after : i * room.bytes + x.offset + length x.bytes ≤ i * room.bytes + room.bytes
+      after = omega (arith, fits)
+
+      closed : List ℕ
+      closed = closed_ends (area_at room i h).ends 0 x.offset
+
+      go : (t : Bool) → Apart (bound_of latest) room i h (holds_after room i t (some x) h)
+      go true =
+          apart_of (bound_of latest) room i h (holds_after room i true (some x) h)
+          (take_write h.bytes (i * room.bytes + x.offset) (i * room.bytes) x.bytes before)
+          (drop_write h.bytes (i * room.bytes + x.offset) (i * room.bytes + room.bytes) x.bytes after)
+          (take_end room.ends i closed (x.offset + length x.bytes) h.ends)
+          (drop_end room.ends i closed (x.offset + length x.bytes) h.ends)
+      go false =
+          apart_of (bound_of latest) room i h (holds_after room i false (some x) h)
+          (take_write h.bytes (i * room.bytes + x.offset) (i * room.bytes) x.bytes before)
+          (drop_write h.bytes (i * room.bytes + x.offset) (i * room.bytes + room.bytes) x.bytes after)
+          refl
+          refl
 
 -- the handle is the one by which the definition is cut
 named : (call : Call) → handle_by call ≡ handle_of call
@@ -76,35 +107,38 @@ named (disconnected_from n) = refl
 named promote = refl
 named promote_unchecked = refl
 
-module _ (row : List BoundRecord) (k : ℕ) (w h : List ℕ) (Looked : Lookup) (is : SeenOf row k (get_or w 0 0) (room_all row h) Looked) where
+module _ (row : List BoundRecord) (k : ℕ) (w : List ℕ) (h : Holds) (Looked : Lookup) (is : SeenOf row k (get_or w 0 0) (room_all row h.bytes) Looked) where
   abbrev Room : ℕ
-  Room = room_all row h
+  Room = room_all row h.bytes
+
+  abbrev Each : Lengths
+  Each = lengths_all row h
 
   abbrev Handles : Row Bound
-  Handles = row_of (bound_of latest) Room row h
+  Handles = row_of (bound_of latest) Each row h
 
   -- ---- what was found
 
   abbrev Own : Bound
-  Own = bound_of latest (get_or row (find_of row k) handles.free_record) (area_at Room (find_of row k) h)
+  Own = bound_of latest (get_or row (find_of row k) handles.free_record) (area_at Each (find_of row k) h)
 
   abbrev Seek : Bool → Option Bound
   Seek t = cond t (some Own) none
 
   sought : found_in Looked h ≡ Seek (ltb (find_of row k) (length row))
   sought =
-      (λ j. found_of latest (seen_found row k (get_or w 0 0) Room is j) (seen_record row k (get_or w 0 0) Room is j) (area_at (seen_room row k (get_or w 0 0) Room is h j) (seen_place row k (get_or w 0 0) Room is j) h))
+      (λ j. found_of latest (seen_found row k (get_or w 0 0) Room is j) (seen_record row k (get_or w 0 0) Room is j) (area_at (seen_lengths row k (get_or w 0 0) Room is h j) (seen_place row k (get_or w 0 0) Room is j) h))
 
   found_in_lem : found_in Looked h ≡ find k Handles
   found_in_lem = sought ∙ go (ltb (find_of row k) (length row)) refl
     where
       go : (t : Bool) → ltb (find_of row k) (length row) ≡ t → Seek t ≡ find k Handles
-      go true e = sym (find_hit (bound_of latest) Room k row h (ltb-true (find_of row k) (length row) e))
-      go false e = sym (find_miss (bound_of latest) Room k row h (ltb-false (find_of row k) (length row) e))
+      go true e = sym (find_hit (bound_of latest) Each k row h (ltb-true (find_of row k) (length row) e))
+      go false e = sym (find_miss (bound_of latest) Each k row h (ltb-false (find_of row k) (length row) e))
 
   -- the row has room as the definition says
   rooms_are : (p : ℕ) → rooms_in Looked row k p ≡ room_at k Handles p
-  rooms_are p = (λ j. prelude.is_some (is.own j) || (prelude.is_some (is.free j) || prelude.is_some (rival_of row k p))) ∙ sym (room_same (bound_of latest) Room (λ g y. refl) k p row h)
+  rooms_are p = (λ j. prelude.is_some (is.own j) || (prelude.is_some (is.free j) || prelude.is_some (rival_of row k p))) ∙ sym (room_same (bound_of latest) Each (λ g y. refl) k p row h)
 
   found_core : (L : state.Settings) (x : Core) (call : Call) → core_step L x (found_in Looked h) (rooms_in Looked row k) call ≡ core_step L x (find k Handles) (room_at k Handles) call
   found_core L x call = (λ j. core_step L x (found_in_lem j) (λ p. rooms_are p j) call)
@@ -126,7 +160,7 @@ module _ (row : List BoundRecord) (k : ℕ) (w h : List ℕ) (Looked : Lookup) (
       ∙ (λ j. cond (ltb (find_of row (sym e j)) (length row)) (find_of row (sym e j)) (min (free_of row) (prelude.unwrap_or (f j) (length row))))
       ∙ spot_alone row x p
 
-  module _ (used : ℕ) (area : List ℕ) where
+  module _ (used : ℕ) (area : Holds) where
     next_whole : (o : RowAction) → Lands Looked row used Room area o → get_or w 0 0 ≤ used → Whole (get_or w 0 0) Room row → Whole used Room (row_after o row)
     next_whole RowAction.Leave l le n = whole_more (get_or w 0 0) used Room row le n
     next_whole RowAction.Clear l le n = whole_cleared used Room row
@@ -136,22 +170,22 @@ module _ (row : List BoundRecord) (k : ℕ) (w h : List ℕ) (Looked : Lookup) (
         none_set (λ g. handles.breaks_of g used Room) (released freed row) at x (record_whole x used Room l.slot_place (omega (arith, l.holds_none)))
         (whole_released used Room row freed (whole_more (get_or w 0 0) used Room row le n))
 
-    module _ (own : ℕ) (asked : Bool) (rooms : ℕ → Bool) (wr : Option HoldWrite) (h' : List ℕ) (mine : asked ≡ true → k ≡ own) (holds : h' ≡ holds_after Room (find_of row k) wr h)
+    module _ (own : ℕ) (asked : Bool) (rooms : ℕ → Bool) (closes : Bool) (wr : Option HoldWrite) (h' : Holds) (mine : asked ≡ true → k ≡ own) (holds : h' ≡ holds_after Each (find_of row k) closes wr h)
         (inside : (x : HoldWrite) → wr ≡ some x → x.offset + length x.bytes ≤ Room) (clean : handles.apart_of row ≡ true) (room : (p : ℕ) → rooms p ≡ true → asked ≡ true → room_at k Handles p ≡ true) where
-      abbrev After : List BoundRecord → List ℕ → Row Bound
-      After r x = row_of (bound_of latest) Room r x
+      abbrev After : List BoundRecord → Holds → Row Bound
+      After r x = row_of (bound_of latest) Each r x
 
       still : wr ≡ none → h' ≡ h
-      still e = holds ∙ ap (λ (x : Option HoldWrite). holds_after Room (find_of row k) x h) e
+      still e = holds ∙ ap (λ (x : Option HoldWrite). holds_after Each (find_of row k) closes x h) e
 
       -- a record is put at its handle's own place
-      puts : (at : ℕ) (x : BoundRecord) → Fits Looked used Room area at x → Fit asked own (found_in Looked h) rooms wr (store x.handle (bound_of latest x (area_at Room at h')))
-          → After (set row at x) h' ≡ put x.handle (bound_of latest x (area_at Room at h')) Handles
+      puts : (at : ℕ) (x : BoundRecord) → Fits Looked used Room area at x → Fit asked own (found_in Looked h) rooms wr (store x.handle (bound_of latest x (area_at Each at h')))
+          → After (set row at x) h' ≡ put x.handle (bound_of latest x (area_at Each at h')) Handles
       puts at x l f =
           (λ j. After (set row (at_own j) x) h')
-          ∙ put_own (bound_of latest) Room k x (ap handles.is_used l.slot_is) is_k row h h' (there f.1.1)
-          (subst (Apart (bound_of latest) Room (find_of row k) h) (sym holds) (holds_apart Room (find_of row k) wr h inside))
-          ∙ sym (λ j. put (is_k j) (bound_of latest x (area_at Room (at_own j) h')) Handles)
+          ∙ put_own (bound_of latest) Each k x (ap handles.is_used l.slot_is) is_k row h h' (there f.1.1)
+          (subst (Apart (bound_of latest) Each (find_of row k) h) (sym holds) (holds_apart Each (find_of row k) closes wr h inside))
+          ∙ sym (λ j. put (is_k j) (bound_of latest x (area_at Each (at_own j) h')) Handles)
         where
           is_k : x.handle ≡ k
           is_k = f.1.0 ∙ sym (mine f.0)
@@ -161,13 +195,13 @@ module _ (row : List BoundRecord) (k : ℕ) (w h : List ℕ) (Looked : Lookup) (
 
       -- a handle is bound anew, once no other has its place
       rebinds : (freed : RustOption ℕ) (at : ℕ) (x : BoundRecord) → Rebinds Looked row used freed at x
-          → Fit asked own (found_in Looked h) rooms wr (rebind x.handle (bound_of latest x (area_at Room at h')))
-          → After (set (released freed row) at x) h' ≡ put x.handle (bound_of latest x (area_at Room at h')) (without_others x.handle x.place Handles)
+          → Fit asked own (found_in Looked h) rooms wr (rebind x.handle (bound_of latest x (area_at Each at h')))
+          → After (set (released freed row) at x) h' ≡ put x.handle (bound_of latest x (area_at Each at h')) (without_others x.handle x.place Handles)
       rebinds freed at x l f =
           (λ j. After (set (released (l.freed_is j) row) (at_spot j) x) (same j))
-          ∙ put_alone (bound_of latest) Room (λ g y. refl) x.handle x.place x (ap handles.is_used (l.slot_is [])) refl row h clean
+          ∙ put_alone (bound_of latest) Each (λ g y. refl) x.handle x.place x (ap handles.is_used (l.slot_is h)) refl row h clean
           (ap (λ (n : ℕ). room_at n Handles x.place) is_k ∙ room x.place f.1.1.0 f.0)
-          ∙ sym (λ j. put x.handle (bound_of latest x (area_at Room (at_spot j) (same j))) (without_others x.handle x.place Handles))
+          ∙ sym (λ j. put x.handle (bound_of latest x (area_at Each (at_spot j) (same j))) (without_others x.handle x.place Handles))
         where
           is_k : x.handle ≡ k
           is_k = f.1.0 ∙ sym (mine f.0)
@@ -178,10 +212,10 @@ module _ (row : List BoundRecord) (k : ℕ) (w h : List ℕ) (Looked : Lookup) (
           at_spot : at ≡ spot_for (alone_at row x.handle x.place) x.handle
           at_spot = rebound_at x.handle x.place is_k freed at l.freed_is l.at_is
 
-      next_handles : (o : RowAction) → Lands Looked row used Room area o → Fit asked own (found_in Looked h) rooms wr (action_for latest Room h' o)
-          → After (row_after o row) h' ≡ act (action_for latest Room h' o) Handles
+      next_handles : (o : RowAction) → Lands Looked row used Room area o → Fit asked own (found_in Looked h) rooms wr (action_for latest Each h' o)
+          → After (row_after o row) h' ≡ act (action_for latest Each h' o) Handles
       next_handles RowAction.Leave l f = (λ i. After row (still f i))
-      next_handles RowAction.Clear l f = (λ i. After (cleared_all row) (still f i)) ∙ all_freed (bound_of latest) Room row h
+      next_handles RowAction.Clear l f = (λ i. After (cleared_all row) (still f i)) ∙ all_freed (bound_of latest) Each row h
       next_handles (RowAction.Store at x) l f = puts at x l f
       next_handles (RowAction.Rebind freed at x) l f = rebinds freed at x l f
 
@@ -193,58 +227,70 @@ module _ (row : List BoundRecord) (k : ℕ) (w h : List ℕ) (Looked : Lookup) (
 
 -- ---- a call
 
-module _ (s : Settings) (c : Replica) (row : List BoundRecord) (call : Call) (w w' b b' h h' : List ℕ) (o : Outcome) (See : Lookup) (seen : SeenOf row (sought_by call) (get_or w 0 0) (room_all row h) See) where
+module _ (s : Settings) (c : Replica) (row : List BoundRecord) (call : Call) (w w' b b' : List ℕ) (h h' : Holds) (o : Outcome) (See : Lookup) (seen : SeenOf row (sought_by call) (get_or w 0 0) (room_all row h.bytes) See) where
   abbrev K : ℕ
   K = sought_by call
 
   abbrev R : ℕ
-  R = room_all row h
+  R = room_all row h.bytes
+
+  abbrev E : Lengths
+  E = lengths_all row h
 
   abbrev L : state.Settings
   L = settings_of s R
 
   abbrev T : Row Bound
-  T = row_of (bound_of latest) R row h
+  T = row_of (bound_of latest) E row h
 
   abbrev Row' : List BoundRecord
   Row' = row_after o.action row
 
   -- a call's core over the row itself
   record OverRow : Type 0 where
-    is : outcome_of latest R s.shape w' b' h' o ≡ core_step L (core_at (counters_of c) s.shape w b) (found_in See h) (rooms_in See row (handle_by call)) call
-    lands : Lands See row (get_or w' 0 0) R (area_at R (own_place See) h') o.action
+    is : outcome_of latest E s.shape w' b' h' o ≡ core_step L (core_at (counters_of c) s.shape w b) (found_in See h) (rooms_in See row (handle_by call)) call
+    lands : Lands See row (get_or w' 0 0) R (area_at E (own_place See) h') o.action
     kept : keeps_counters c call ≡ true → o.replica ≡ c
     rules : Rules s.shape w' b'
     more : get_or w 0 0 ≤ get_or w' 0 0
     leaves : Leaves s.shape c (get_or row (find_of row K) handles.free_record).place call w w' b b' o.answer
-    holds : h' ≡ holds_after R (find_of row K) (writes_by L (counters_of c) (found_in See h) call) h
+    holds : h' ≡ holds_after E (find_of row K) (closes_by (counters_of c) call) (writes_by L (counters_of c) (found_in See h) call) h
 
   over_row : Stepped s c See row call w w' b b' h h' o → OverRow
   over_row st =
-      let room : room_in See h ≡ R = seen_room row K (get_or w 0 0) R seen h in
+      let room : lengths_in See h ≡ E = seen_lengths row K (get_or w 0 0) R seen h in
       record {
         is =
-            subst (λ (r : ℕ). outcome_of latest r s.shape w' b' h' o ≡ core_step (settings_of s r) (core_at (counters_of c) s.shape w b) (found_in See h) (rooms_in See row (handle_by call)) call) room st.is;
-        lands = subst (λ (r : ℕ). Lands See row (get_or w' 0 0) r (area_at r (own_place See) h') o.action) room st.lands;
+            subst (λ (r : Lengths). outcome_of latest r s.shape w' b' h' o ≡ core_step (settings_of s r.bytes) (core_at (counters_of c) s.shape w b) (found_in See h) (rooms_in See row (handle_by call)) call) room st.is;
+        lands = subst (λ (r : Lengths). Lands See row (get_or w' 0 0) r.bytes (area_at r (own_place See) h') o.action) room st.lands;
         kept = st.kept;
         rules = st.rules;
         more = st.more;
         leaves = subst (λ (x : BoundRecord). Leaves s.shape c x.place call w w' b b' o.answer) (seen_record row K (get_or w 0 0) R seen) st.leaves;
-        holds = st.holds ∙ (λ j. holds_after (room j) (seen_place row K (get_or w 0 0) R seen j) (writes_by (settings_of s (room j)) (counters_of c) (found_in See h) call) h);
+        holds = st.holds ∙ (λ j. holds_after (room j) (seen_place row K (get_or w 0 0) R seen j) (closes_by (counters_of c) call) (writes_by (settings_of s (room j).bytes) (counters_of c) (found_in See h) call) h);
       }
 
-  module _ (clean : allowed_all s row w b h ≡ true) (st : OverRow) where
+  module _ (clean : allowed_all s row w b h.bytes ≡ true) (st : OverRow) where
     abbrev Wr : Option HoldWrite
     Wr = writes_by L (counters_of c) (found_in See h) call
 
     row_same : length Row' ≡ length row
     row_same = next_length row K w h See seen o.action
 
-    holds_same : length h' ≡ length h
-    holds_same = ap length st.holds ∙ holds_length R (find_of row K) Wr h
+    abbrev Closes : Bool
+    Closes = closes_by (counters_of c) call
 
-    room_kept : room_all Row' h' ≡ R
+    holds_same : length h'.bytes ≡ length h.bytes
+    holds_same = ap (λ (x : Holds). length x.bytes) st.holds ∙ holds_length E (find_of row K) Closes Wr h
+
+    ends_same : length h'.ends ≡ length h.ends
+    ends_same = ap (λ (x : Holds). length x.ends) st.holds ∙ ends_length E (find_of row K) Closes Wr h
+
+    room_kept : room_all Row' h'.bytes ≡ R
     room_kept = (λ i. room_of (holds_same i) (row_same i))
+
+    lengths_kept : lengths_all Row' h' ≡ E
+    lengths_kept = λ i. record { bytes = room_kept i; ends = room_of (ends_same i) (row_same i) }
 
     -- the rules of the row
     row_rules : (handles.apart_of row && leb (length row) (broken_of row (get_or w 0 0) R)) ≡ true
@@ -257,15 +303,15 @@ module _ (s : Settings) (c : Replica) (row : List BoundRecord) (call : Call) (w 
     room_asked : (p : ℕ) → rooms_in See row (handle_by call) p ≡ true → asks call ≡ true → room_at K T p ≡ true
     room_asked p e a = sym (rooms_are row K w h See seen p) ∙ ap (λ (n : ℕ). rooms_in See row n p) (sought_own call a) ∙ e
 
-    fits : Fit (asks call) (handle_by call) (found_in See h) (rooms_in See row (handle_by call)) Wr (action_of latest R h' o)
+    fits : Fit (asks call) (handle_by call) (found_in See h) (rooms_in See row (handle_by call)) Wr (action_of latest E h' o)
     fits =
         subst (Fit (asks call) (handle_by call) (found_in See h) (rooms_in See row (handle_by call)) Wr) (sym (ap (λ (r : CoreResult). r.action) st.is))
         (step_fit L (core_at (counters_of c) s.shape w b) (found_in See h) (rooms_in See row (handle_by call)) call)
 
-    handles_are : row_of (bound_of latest) (room_all Row' h') Row' h' ≡ act (action_of latest R h' o) T
+    handles_are : row_of (bound_of latest) (lengths_all Row' h') Row' h' ≡ act (action_of latest E h' o) T
     handles_are =
-        ap (λ (n : ℕ). row_of (bound_of latest) n Row' h') room_kept
-        ∙ next_handles row K w h See seen (get_or w' 0 0) (area_at R (own_place See) h') (handle_by call) (asks call) (rooms_in See row (handle_by call)) Wr h' (sought_own call) st.holds (written_inside L (counters_of c) (found_in See h) call)
+        ap (λ (n : Lengths). row_of (bound_of latest) n Row' h') lengths_kept
+        ∙ next_handles row K w h See seen (get_or w' 0 0) (area_at E (own_place See) h') (handle_by call) (asks call) (rooms_in See row (handle_by call)) Closes Wr h' (sought_own call) st.holds (written_inside L (counters_of c) (found_in See h) call)
         row_apart room_asked o.action st.lands fits
 
     -- what is found for the handle looked up is what is found for the call's
@@ -281,14 +327,14 @@ module _ (s : Settings) (c : Replica) (row : List BoundRecord) (call : Call) (w 
             ∙ ap (λ (k : ℕ). core_step L (core_at (counters_of c) s.shape w b) (find k T) (room_at k T) call) (sought_own call e)
         go false e = step_any L (core_at (counters_of c) s.shape w b) (found_in See h) (find (handle_by call) T) (rooms_in See row (handle_by call)) (room_at (handle_by call) T) call e
 
-    holds_own : h' ≡ holds_after R (find_of row (handle_by call)) (writes_by L (counters_of c) (find (handle_by call) T) call) h
-    holds_own = st.holds ∙ ap (λ (x : Option Bound). holds_after R (find_of row K) (writes_by L (counters_of c) x call) h) (found_in_lem row K w h See seen) ∙ go (asks call) refl
+    holds_own : h' ≡ holds_after E (find_of row (handle_by call)) Closes (writes_by L (counters_of c) (find (handle_by call) T) call) h
+    holds_own = st.holds ∙ ap (λ (x : Option Bound). holds_after E (find_of row K) Closes (writes_by L (counters_of c) x call) h) (found_in_lem row K w h See seen) ∙ go (asks call) refl
       where
-        go : (t : Bool) → asks call ≡ t → holds_after R (find_of row K) (writes_by L (counters_of c) (find K T) call) h ≡ holds_after R (find_of row (handle_by call)) (writes_by L (counters_of c) (find (handle_by call) T) call) h
-        go true e = ap (λ (k : ℕ). holds_after R (find_of row k) (writes_by L (counters_of c) (find k T) call) h) (sought_own call e)
+        go : (t : Bool) → asks call ≡ t → holds_after E (find_of row K) Closes (writes_by L (counters_of c) (find K T) call) h ≡ holds_after E (find_of row (handle_by call)) Closes (writes_by L (counters_of c) (find (handle_by call) T) call) h
+        go true e = ap (λ (k : ℕ). holds_after E (find_of row k) Closes (writes_by L (counters_of c) (find k T) call) h) (sought_own call e)
         go false e =
-            ap (λ (x : Option HoldWrite). holds_after R (find_of row K) x h) (writes_none L (counters_of c) (find K T) call e)
-            ∙ sym (ap (λ (x : Option HoldWrite). holds_after R (find_of row (handle_by call)) x h) (writes_none L (counters_of c) (find (handle_by call) T) call e))
+            ap (λ (x : Option HoldWrite). holds_after E (find_of row K) Closes x h) (writes_none L (counters_of c) (find K T) call e)
+            ∙ sym (ap (λ (x : Option HoldWrite). holds_after E (find_of row (handle_by call)) Closes x h) (writes_none L (counters_of c) (find (handle_by call) T) call e))
 
     leaves_own : Leaves s.shape c (get_or row (find_of row (handle_by call)) handles.free_record).place call w w' b b' o.answer
     leaves_own = go (asks call) refl
@@ -309,7 +355,7 @@ module _ (s : Settings) (c : Replica) (row : List BoundRecord) (call : Call) (w 
     abbrev Leaving : Row Bound
     Leaving = (step L X call).state.handles
 
-    after_is : Leaving ≡ act (action_of latest R h' o) T
+    after_is : Leaving ≡ act (action_of latest E h' o) T
     after_is = ap (λ (r : Result). r.state.handles) stepped_is ∙ ap (λ (r : CoreResult). act r.action T) (sym (st.is ∙ found_own_core))
 
     -- the handle is the one looked up, where a frame has one
@@ -319,10 +365,10 @@ module _ (s : Settings) (c : Replica) (row : List BoundRecord) (call : Call) (w 
     -- a record is put
     module _ (at : ℕ) (x : BoundRecord) (e : o.action ≡ RowAction.Store at x) where
       abbrev Puts : Action
-      Puts = store x.handle (bound_of latest x (area_at R at h'))
+      Puts = store x.handle (bound_of latest x (area_at E at h'))
 
-      is_puts : action_of latest R h' o ≡ Puts
-      is_puts = ap (action_for latest R h') e
+      is_puts : action_of latest E h' o ≡ Puts
+      is_puts = ap (action_for latest E h') e
 
       puts_fit : Fit (asks call) (handle_by call) (found_in See h) (rooms_in See row (handle_by call)) Wr Puts
       puts_fit = subst (Fit (asks call) (handle_by call) (found_in See h) (rooms_in See row (handle_by call)) Wr) is_puts fits
@@ -336,11 +382,11 @@ module _ (s : Settings) (c : Replica) (row : List BoundRecord) (call : Call) (w 
       has_room_so : has_room x.handle T ≡ true
       has_room_so = ap (λ (t : Bool). t || has_free T) found_k
 
-      found_after : find x.handle Leaving ≡ some (bound_of latest x (area_at R at h'))
-      found_after = ap (find x.handle) (after_is ∙ ap (λ (y : Action). act y T) is_puts) ∙ find_put_same x.handle (bound_of latest x (area_at R at h')) T has_room_so
+      found_after : find x.handle Leaving ≡ some (bound_of latest x (area_at E at h'))
+      found_after = ap (find x.handle) (after_is ∙ ap (λ (y : Action). act y T) is_puts) ∙ find_put_same x.handle (bound_of latest x (area_at E at h')) T has_room_so
 
-      landed : Fits See (get_or w' 0 0) R (area_at R (own_place See) h') at x
-      landed = subst (Lands See row (get_or w' 0 0) R (area_at R (own_place See) h')) e st.lands
+      landed : Fits See (get_or w' 0 0) R (area_at E (own_place See) h') at x
+      landed = subst (Lands See row (get_or w' 0 0) R (area_at E (own_place See) h')) e st.lands
 
       at_spot : at ≡ spot_for row x.handle
       at_spot =
@@ -348,8 +394,8 @@ module _ (s : Settings) (c : Replica) (row : List BoundRecord) (call : Call) (w 
           ∙ sym (ap (λ (t : Bool). cond t (find_of row x.handle) (free_of row)) (ap (λ (k : ℕ). ltb (find_of row k) (length row)) is_k ∙ lt-ltb (find_of row K) (length row) (there row K w h See seen puts_fit.1.1)))
 
       -- it is the record of what it stands for at its own place
-      slot_own : x ≡ record_for x.handle (bound_of latest x (area_at R at h'))
-      slot_own = landed.slot_is ∙ ap (λ (i : ℕ). record_for x.handle (bound_of latest x (area_at R i h'))) (sym landed.at_is)
+      slot_own : x ≡ record_for x.handle (bound_of latest x (area_at E at h'))
+      slot_own = landed.slot_is ∙ ap (λ (i : ℕ). record_for x.handle (bound_of latest x (area_at E i h'))) (sym landed.at_is)
 
       row_put : RowPut (spot_for row x.handle) x.handle (find x.handle Leaving) row (set row at x)
       row_put = subst (λ (y : Option Bound). RowPut (spot_for row x.handle) x.handle y row (set row at x)) (sym found_after) (λ j. set row (at_spot j) (slot_own j))
@@ -357,10 +403,10 @@ module _ (s : Settings) (c : Replica) (row : List BoundRecord) (call : Call) (w 
     -- a handle is bound anew
     module _ (freed : RustOption ℕ) (at : ℕ) (x : BoundRecord) (e : o.action ≡ RowAction.Rebind freed at x) where
       abbrev Binds : Action
-      Binds = rebind x.handle (bound_of latest x (area_at R at h'))
+      Binds = rebind x.handle (bound_of latest x (area_at E at h'))
 
-      is_binds : action_of latest R h' o ≡ Binds
-      is_binds = ap (action_for latest R h') e
+      is_binds : action_of latest E h' o ≡ Binds
+      is_binds = ap (action_for latest E h') e
 
       binds_fit : Fit (asks call) (handle_by call) (found_in See h) (rooms_in See row (handle_by call)) Wr Binds
       binds_fit = subst (Fit (asks call) (handle_by call) (found_in See h) (rooms_in See row (handle_by call)) Wr) is_binds fits
@@ -371,11 +417,11 @@ module _ (s : Settings) (c : Replica) (row : List BoundRecord) (call : Call) (w 
       room_so : room_at x.handle T x.place ≡ true
       room_so = ap (λ (k : ℕ). room_at k T x.place) bound_k ∙ room_asked x.place binds_fit.1.1.0 binds_fit.0
 
-      bound_after : find x.handle Leaving ≡ some (bound_of latest x (area_at R at h'))
-      bound_after = ap (find x.handle) (after_is ∙ ap (λ (y : Action). act y T) is_binds) ∙ find_put_same x.handle (bound_of latest x (area_at R at h')) (without_others x.handle x.place T) room_so
+      bound_after : find x.handle Leaving ≡ some (bound_of latest x (area_at E at h'))
+      bound_after = ap (find x.handle) (after_is ∙ ap (λ (y : Action). act y T) is_binds) ∙ find_put_same x.handle (bound_of latest x (area_at E at h')) (without_others x.handle x.place T) room_so
 
       bound_so : Rebinds See row (get_or w' 0 0) freed at x
-      bound_so = subst (Lands See row (get_or w' 0 0) R (area_at R (own_place See) h')) e st.lands
+      bound_so = subst (Lands See row (get_or w' 0 0) R (area_at E (own_place See) h')) e st.lands
 
       bound_at : at ≡ spot_for (alone_at row x.handle x.place) x.handle
       bound_at = rebound_at row K w h See seen x.handle x.place bound_k freed at bound_so.freed_is bound_so.at_is
@@ -383,15 +429,15 @@ module _ (s : Settings) (c : Replica) (row : List BoundRecord) (call : Call) (w 
       row_rebound : RowRebound x.handle (find x.handle Leaving) row (set (released freed row) at x)
       row_rebound =
           subst (λ (y : Option Bound). RowRebound x.handle y row (set (released freed row) at x)) (sym bound_after)
-          (λ j. set (released (bound_so.freed_is j) row) (bound_at j) (bound_so.slot_is (area_at R at h') j))
+          (λ j. set (released (bound_so.freed_is j) row) (bound_at j) (bound_so.slot_is (area_at E at h') j))
 
-    row_done : RowLeaves (kind_of (action_of latest R h' o)) Leaving row Row'
+    row_done : RowLeaves (kind_of (action_of latest E h' o)) Leaving row Row'
     row_done = go o.action refl
       where
-        by : {a : RowAction} → o.action ≡ a → RowLeaves (kind_of (action_for latest R h' a)) Leaving row (row_after a row) → RowLeaves (kind_of (action_of latest R h' o)) Leaving row Row'
-        by e = subst (λ (y : RowAction). RowLeaves (kind_of (action_for latest R h' y)) Leaving row (row_after y row)) (sym e)
+        by : {a : RowAction} → o.action ≡ a → RowLeaves (kind_of (action_for latest E h' a)) Leaving row (row_after a row) → RowLeaves (kind_of (action_of latest E h' o)) Leaving row Row'
+        by e = subst (λ (y : RowAction). RowLeaves (kind_of (action_for latest E h' y)) Leaving row (row_after y row)) (sym e)
 
-        go : (a : RowAction) → o.action ≡ a → RowLeaves (kind_of (action_of latest R h' o)) Leaving row Row'
+        go : (a : RowAction) → o.action ≡ a → RowLeaves (kind_of (action_of latest E h' o)) Leaving row Row'
         go RowAction.Leave e = by e refl
         go RowAction.Clear e = by e refl
         go (RowAction.Store at x) e = by e (row_put at x e)
@@ -414,16 +460,16 @@ module _ (s : Settings) (c : Replica) (row : List BoundRecord) (call : Call) (w 
     -- the definition keeps the row's rule, and so does the call
     apart_after : handles.apart_of Row' ≡ true
     apart_after =
-        rows_apart (bound_of latest) R (λ g y. refl) Row' h'
-        ∙ ap (λ (n : ℕ). apart (row_of (bound_of latest) n Row' h')) (sym room_kept)
+        rows_apart (bound_of latest) E (λ g y. refl) Row' h'
+        ∙ ap (λ (n : Lengths). apart (row_of (bound_of latest) n Row' h')) (sym lengths_kept)
         ∙ ap apart (handles_are ∙ sym after_is)
         ∙ apart_step L X call (allowed_apart s c row w b h clean)
 
-    allowed_after : allowed_all s Row' w' b' h' ≡ true
+    allowed_after : allowed_all s Row' w' b' h'.bytes ≡ true
     allowed_after =
         (λ i. rules_true s.shape w' b' st.rules i && (apart_after i && leb (length Row') (broken_of Row' (get_or w' 0 0) (room_kept i))))
         ∙ of_whole (get_or w' 0 0) R Row'
-        (next_whole row K w h See seen (get_or w' 0 0) (area_at R (own_place See) h') o.action st.lands st.more (whole_of (get_or w 0 0) R row (and_r (handles.apart_of row) (leb (length row) (broken_of row (get_or w 0 0) R)) row_rules)))
+        (next_whole row K w h See seen (get_or w' 0 0) (area_at E (own_place See) h') o.action st.lands st.more (whole_of (get_or w 0 0) R row (and_r (handles.apart_of row) (leb (length row) (broken_of row (get_or w 0 0) R)) row_rules)))
 
     called_steps : CalledSteps s call c o.replica row Row' w w' b b' h h' o.answer
     called_steps =
@@ -443,16 +489,17 @@ module _ (s : Settings) (c : Replica) (row : List BoundRecord) (call : Call) (w 
           row_length = row_same;
           counters_kept = st.kept;
           holds_length = holds_same;
+          ends_length = ends_same;
         }
 
   pub called : StepIs s c See row call w w' b b' h h' o → Called s call c o.replica row Row' w w' b b' h h' o.answer
   called p =
       record {
-        refuses = λ e. refused (p.refuses (seen_allowed_lem s row K w b h seen ∙ e));
+        refuses = λ e. refused (p.refuses (seen_allowed_lem s row K w b h.bytes seen ∙ e));
         steps = λ e.
             called_steps e
             (over_row
-            (p.steps (seen_allowed_lem s row K w b h seen ∙ e)
+            (p.steps (seen_allowed_lem s row K w b h.bytes seen ∙ e)
             (λ f a.
             ap (λ (x : BoundRecord). x.handle) (seen_record row K (get_or w 0 0) R seen) ∙ found_own row K (ltb-true (find_of row K) (length row) (sym (seen_found row K (get_or w 0 0) R seen) ∙ f)) ∙ sought_own call a)));
         exact = p.exact;

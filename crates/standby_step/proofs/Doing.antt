@@ -10,7 +10,7 @@ use Rattle.model_frame.specs.Frame.{Key, Change, Part, commit, whole, last_whole
 use Rattle.model_frame.specs.Parse.{is_empty}
 use Rattle.model_frame.specs.Sizes.{sizes}
 use Rattle.model_session.specs.Session.{suits, fits}
-use Rattle.model_text.specs.Version.{latest, is_version}
+use Rattle.model_text.specs.Version.{is_version}
 use Rattle.model_standby.specs.Answer.{Given, damaged, intact, given, Answer, refused, accepted, says_diverged}
 use Rattle.model_standby.specs.Store.{place_of, is_stored, session_at, or_new}
 use Rattle.model_standby.specs.State.{Settings, incarnation_of, Bound, Call, on_frame_held, on_frame, flush, disconnected_from, promote, promote_unchecked, at_epoch, none_held}

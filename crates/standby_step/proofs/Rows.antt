@@ -2,7 +2,7 @@
 use mathlib.Core.Path.{◌≡◌, refl, sym, ap, subst, ◌∙◌}
 use mathlib.Core.Bool.{Bool, true, false, cond, not, ◌&&◌, ◌||◌, true≢false}
 use mathlib.Core.List.{List, [], ◌∷◌}
-use Prim.Native.Nat.{ℕ, zero, suc, ◌+◌, ◌≤◌, ◌<◌, min}
+use Prim.Native.Nat.{ℕ, zero, suc, ◌+◌, ◌*◌, ◌≤◌, ◌<◌, min}
 use native.Mathlib.Omega.{arith}
 use lib.Dec.{leb, ltb, eqb}
 use lib.ListN.{length, get_or, set, take, drop, length-set}
@@ -12,6 +12,7 @@ use Rattle.model_text.specs.Version.{latest}
 use Rattle.model_frame.specs.Bytes.{write}
 use Rattle.std.specs.Prelude.{Option, Some, is_some, unwrap_or}
 use Rattle.std.specs.Prelude as prelude
+use Rattle.standby_segments.specs.Segments.{Holds, Lengths, open_from, end_for}
 use Rattle.standby_row.specs.declared.Bound.{Bound}
 use Rattle.standby_row.specs.declared.lookup.Found.{Found}
 use Rattle.standby_row.specs.declared.lookup.Lookup.{Lookup}
@@ -21,10 +22,10 @@ use Rattle.model_standby.specs.Handles.{apart}
 use Rattle.standby_counters.specs.declared.Replica.{Replica}
 use Rattle.standby_state.specs.declared.Settings.{Settings}
 use Rattle.standby_state.specs.Outcomes.{spot_of}
-use Rattle.standby_step.specs.Steps.{room_of, room_in, is_found, seen_allowed}
+use Rattle.standby_step.specs.Steps.{room_of, room_in, lengths_in, with_end, is_found, seen_allowed}
 use Rattle.standby_part.specs.State.{bound_of}
 use Rattle.standby_handles.proofs.Apart.{rows_apart, first_or, alone_length, find_released, free_released}
-use Rattle.standby_step.specs.Calls.{room_all, standby_of, allowed_all}
+use Rattle.standby_step.specs.Calls.{room_all, lengths_all, standby_of, allowed_all}
 
 zero_less : {n : ℕ} → n < 0 → ⊥
 zero_less h = omega arith
@@ -244,20 +245,26 @@ module _ (row : List Bound) (k places room : ℕ) {seen : Lookup} (is : SeenOf r
   pub seen_room : (h : List ℕ) → room_in seen h ≡ room_all row h
   seen_room h = ap (room_of (length h)) is.len
 
+  pub seen_lengths : (h : Holds) → lengths_in seen h ≡ lengths_all row h
+  seen_lengths h = λ j. record { bytes = seen_room h.bytes j; ends = seen_room h.ends j }
+
+none_long : Lengths
+none_long = record { bytes = 0; ends = 0 }
+
 -- where no other handle has the session place p, the handle k is put at its own place, or the first free one: that is what was found, with the place that was freed
 pub spot_alone : (row : List Bound) (k p : ℕ) → cond (ltb (find_of row k) (length row)) (find_of row k) (min (free_of row) (unwrap_or (rival_of row k p) (length row))) ≡ spot_for (alone_at row k p) k
 spot_alone row k p =
     ap (λ (n : ℕ). cond (ltb (find_of row k) (length row)) (find_of row k) (min (free_of row) n)) (first_or (λ h. is_rival h k p) row)
-    ∙ sym (λ j. cond (ltb (finds j) (alone_length (bound_of 1) 0 (λ h y. refl) k p row j)) (finds j) (free_released (bound_of 1) 0 (λ h y. refl) k p row j))
+    ∙ sym (λ j. cond (ltb (finds j) (alone_length (bound_of 1) none_long (λ h y. refl) k p row j)) (finds j) (free_released (bound_of 1) none_long (λ h y. refl) k p row j))
   where
     finds : find_of (alone_at row k p) k ≡ find_of row k
-    finds = find_released (bound_of 1) 0 (λ h y. refl) k p row
+    finds = find_released (bound_of 1) none_long (λ h y. refl) k p row
 
 -- where the rules hold, the row that is stood for keeps the definition's rule
-pub allowed_apart : (s : Settings) (c : Replica) (row : List Bound) (w b h : List ℕ) → allowed_all s row w b h ≡ true → apart (standby_of s c row w b h).handles ≡ true
+pub allowed_apart : (s : Settings) (c : Replica) (row : List Bound) (w b : List ℕ) (h : Holds) → allowed_all s row w b h.bytes ≡ true → apart (standby_of s c row w b h).handles ≡ true
 allowed_apart s c row w b h on =
-    sym (rows_apart (bound_of latest) (room_all row h) (λ g y. refl) row h)
-    ∙ and_l (apart_of row) (leb (length row) (broken_of row (get_or w 0 0) (room_all row h))) (and_r (allowed s.shape w b) (apart_of row && leb (length row) (broken_of row (get_or w 0 0) (room_all row h))) on)
+    sym (rows_apart (bound_of latest) (lengths_all row h) (λ g y. refl) row h)
+    ∙ and_l (apart_of row) (leb (length row) (broken_of row (get_or w 0 0) (room_all row h.bytes))) (and_r (allowed s.shape w b) (apart_of row && leb (length row) (broken_of row (get_or w 0 0) (room_all row h.bytes))) on)
 
 -- the rules by what was found are the rules
 pub seen_allowed_lem : (s : Settings) (row : List Bound) (k : ℕ) (w b h : List ℕ) {seen : Lookup} → SeenOf row k (get_or w 0 0) (room_all row h) seen → seen_allowed s.shape seen w b h ≡ allowed_all s row w b h
@@ -302,3 +309,26 @@ take_write l i n vs h = take_sets vs l i n h
 pub drop_write : (l : List ℕ) (i n : ℕ) (vs : List ℕ) → i + length vs ≤ n → drop n (write l i vs) ≡ drop n l
 unfolding write
 drop_write l i n vs h = drop_sets vs l i n h
+
+-- a word written in the words of one place
+module _ (room i : ℕ) (closed : List ℕ) (len : ℕ) (l : List ℕ) where
+  pub take_end : take (i * room) (with_end room i closed len l) ≡ take (i * room) l
+  take_end = go (ltb (length closed) room)
+    where
+      go : (t : Bool) → take (i * room) (cond t (set l (i * room + length closed) (end_for (open_from 0 closed) len)) l) ≡ take (i * room) l
+      go true = take-set-le (i * room) l (i * room + length closed) (end_for (open_from 0 closed) len) (omega arith)
+      go false = refl
+
+  pub drop_end : drop (i * room + room) (with_end room i closed len l) ≡ drop (i * room + room) l
+  drop_end = go (ltb (length closed) room) refl
+    where
+      go : (t : Bool) → ltb (length closed) room ≡ t → drop (i * room + room) (cond t (set l (i * room + length closed) (end_for (open_from 0 closed) len)) l) ≡ drop (i * room + room) l
+      go true e = let less : length closed < room = ltb-true (length closed) room e in drop-set-lt (i * room + room) l (i * room + length closed) (end_for (open_from 0 closed) len) (omega arith)
+      go false e = refl
+
+  pub end_length : length (with_end room i closed len l) ≡ length l
+  end_length = go (ltb (length closed) room)
+    where
+      go : (t : Bool) → length (cond t (set l (i * room + length closed) (end_for (open_from 0 closed) len)) l) ≡ length l
+      go true = length-set l (i * room + length closed) (end_for (open_from 0 closed) len)
+      go false = refl

@@ -4,6 +4,7 @@ use Rattle.std.proofs.Math.Option.{Option, none, some}
 use Rattle.model_frame.specs.Refusal
 use Rattle.model_frame.specs.Bytes.{le_at}
 use Rattle.model_frame.specs.Frame.{Frame, hello, welcome, bind, batch, ack, nack, bound, checked}
+use Rattle.standby_segments.specs.Segments.{Holds, Lengths}
 use Rattle.standby_row.specs.declared.Bound.{Bound}
 use Rattle.standby_row.specs.Row.{free_record, find_of, broken_of, apart_of, alone_at, spot_for, cleared_all}
 use Rattle.standby_handles.specs.Rows.{row_of}
@@ -23,18 +24,22 @@ use Rattle.standby_state.specs.declared.Answer.{Answer}
 use Rattle.standby_state.specs.Answers.{answer_of, is_refused}
 use Rattle.standby_state.specs.Exact.{Exact}
 use Rattle.standby_state.specs.Outcomes.{counters_of, settings_of}
-use Rattle.standby_step.specs.Steps.{room_of, handle_by, keeps_counters, Leaves, holds_after, writes_by}
+use Rattle.standby_step.specs.Steps.{room_of, handle_by, keeps_counters, Leaves, holds_after, closes_by, writes_by}
 
 -- the length of each hold area
 abbrev pub room_all : List Bound → List ℕ → ℕ
 room_all row h = room_of (length h) (length row)
 
--- what it all stands for
-abbrev pub standby_of : Settings → Replica → List Bound → List ℕ → List ℕ → List ℕ → Standby
-standby_of s c row w b h =
-    record { counters = counters_of c; places = places_of s.shape w b; handles = row_of (bound_of latest) (room_all row h) row h; pending = pending_of w }
+-- and of its words
+abbrev pub lengths_all : List Bound → Holds → Lengths
+lengths_all row h = record { bytes = room_all row h.bytes; ends = room_all row h.ends }
 
--- the rules: the store's; no two used records have one handle, and no two name one place; none names a place that isn't in use or holds more than its area has
+-- what it all stands for
+abbrev pub standby_of : Settings → Replica → List Bound → List ℕ → List ℕ → Holds → Standby
+standby_of s c row w b h =
+    record { counters = counters_of c; places = places_of s.shape w b; handles = row_of (bound_of latest) (lengths_all row h) row h; pending = pending_of w }
+
+-- the rules, which ask nothing of the words: the store's; no two used records have one handle, and no two name one place; none names a place that isn't in use or holds more than its area has
 abbrev pub allowed_all : Settings → List Bound → List ℕ → List ℕ → List ℕ → Bool
 allowed_all s row w b h = allowed s.shape w b && (apart_of row && leb (length row) (broken_of row (used_of w) (room_all row h)))
 
@@ -110,22 +115,23 @@ RowLeaves (rebinds h) t row row' = RowRebound h (find h t) row row'
 RowLeaves frees t row row' = row' ≡ cleared_all row
 
 -- the definition's step, and what stays as it was
-pub record CalledSteps (s : Settings) (call : Call) (c c' : Replica) (row row' : List Bound) (w w' b b' h h' : List ℕ) (a : Answer) : Type 0 where
-  pub is : record { state = standby_of s c' row' w' b' h'; answer = answer_of b' a } ≡ step (settings_of s (room_all row h)) (standby_of s c row w b h) call
-  pub allowed : allowed_all s row' w' b' h' ≡ true
+pub record CalledSteps (s : Settings) (call : Call) (c c' : Replica) (row row' : List Bound) (w w' b b' : List ℕ) (h h' : Holds) (a : Answer) : Type 0 where
+  pub is : record { state = standby_of s c' row' w' b' h'; answer = answer_of b' a } ≡ step (settings_of s (room_all row h.bytes)) (standby_of s c row w b h) call
+  pub allowed : allowed_all s row' w' b' h'.bytes ≡ true
   pub leaves : Leaves s.shape c (get_or row (find_of row (handle_by call)) free_record).place call w w' b b' a
-  pub holds : h' ≡ holds_after (room_all row h) (find_of row (handle_by call))
-      (writes_by (settings_of s (room_all row h)) (counters_of c) (find (handle_by call) (standby_of s c row w b h).handles) call) h
-  pub row_leaves : RowLeaves (row_by (counters_of c) call (step (settings_of s (room_all row h)) (standby_of s c row w b h) call).answer)
-      (step (settings_of s (room_all row h)) (standby_of s c row w b h) call).state.handles row row'
+  pub holds : h' ≡ holds_after (lengths_all row h) (find_of row (handle_by call)) (closes_by (counters_of c) call)
+      (writes_by (settings_of s (room_all row h.bytes)) (counters_of c) (find (handle_by call) (standby_of s c row w b h).handles) call) h
+  pub row_leaves : RowLeaves (row_by (counters_of c) call (step (settings_of s (room_all row h.bytes)) (standby_of s c row w b h) call).answer)
+      (step (settings_of s (room_all row h.bytes)) (standby_of s c row w b h) call).state.handles row row'
   -- a refusal leaves the row as it was; 17 raises the byte sum of its handle's record
   pub row_still : (n : ℕ) → answer_of b' a ≡ refused n → eqb n Refusal.too_many_bytes ≡ false → row' ≡ row
   pub row_length : length row' ≡ length row
   pub counters_kept : keeps_counters c call ≡ true → c' ≡ c
-  pub holds_length : length h' ≡ length h
+  pub holds_length : length h'.bytes ≡ length h.bytes
+  pub ends_length : length h'.ends ≡ length h.ends
 
 -- 25 where the rules are broken, and all is as it was; else the step; the answer is the record of what it stands for, field for field
-pub record Called (s : Settings) (call : Call) (c c' : Replica) (row row' : List Bound) (w w' b b' h h' : List ℕ) (a : Answer) : Type 0 where
-  pub refuses : allowed_all s row w b h ≡ false → (a ≡ is_refused Refusal.rules_broken) × ((c' ≡ c) × ((row' ≡ row) × ((w' ≡ w) × ((b' ≡ b) × (h' ≡ h)))))
-  pub steps : allowed_all s row w b h ≡ true → CalledSteps s call c c' row row' w w' b b' h h' a
+pub record Called (s : Settings) (call : Call) (c c' : Replica) (row row' : List Bound) (w w' b b' : List ℕ) (h h' : Holds) (a : Answer) : Type 0 where
+  pub refuses : allowed_all s row w b h.bytes ≡ false → (a ≡ is_refused Refusal.rules_broken) × ((c' ≡ c) × ((row' ≡ row) × ((w' ≡ w) × ((b' ≡ b) × (h' ≡ h)))))
+  pub steps : allowed_all s row w b h.bytes ≡ true → CalledSteps s call c c' row row' w w' b b' h h' a
   pub exact : Exact b' a

@@ -5,6 +5,7 @@ use Rattle.base_flags.specs.Flag.{is_set}
 use Rattle.model_frame.specs.Refusal
 use Rattle.model_frame.specs.Bytes.{write}
 use Rattle.model_frame.specs.Frame.{hello, welcome, bind, batch, ack, nack, bound, checked}
+use Rattle.standby_segments.specs.Segments.{Holds, Lengths, closed_ends, open_from, end_for}
 use Rattle.standby_row.specs.declared.Bound.{Bound as BoundRecord}
 use Rattle.standby_row.specs.declared.lookup.Lookup.{Lookup}
 use Rattle.standby_row.specs.Row.{rival_of, own_place, own_record}
@@ -24,32 +25,36 @@ use Rattle.model_standby.specs.State as state
 use Rattle.model_standby.specs.Standby.{due}
 use Rattle.model_standby.specs.Hold.{HoldWrite, writes}
 use Rattle.model_standby.specs.Core.{core_step}
+use Rattle.standby_handles.specs.Rows.{area_at}
 use Rattle.standby_part.specs.State.{core_at}
-use Rattle.standby_batch_handle.specs.Handling.{found_of}
+use Rattle.standby_batch_handle.specs.Handling.{is_whole, found_of}
 use Rattle.standby_counters.specs.declared.Replica.{Replica}
 use Rattle.standby_state.specs.declared.Settings.{Settings}
 use Rattle.standby_state.specs.declared.Answer.{Answer}
 use Rattle.standby_state.specs.declared.Outcome.{Outcome}
 use Rattle.standby_state.specs.Answers.{answer_of, is_refused}
 use Rattle.standby_state.specs.Exact.{Exact}
-use Rattle.standby_state.specs.Outcomes.{counters_of, settings_of, room_for, leaving, area_at, outcome_of, Lands}
+use Rattle.standby_state.specs.Outcomes.{counters_of, settings_of, room_for, leaving, outcome_of, Lands}
 
--- ---- hold areas: the bytes are divided evenly among the row's places
+-- ---- hold areas: the bytes are divided evenly among the row's places, and so are the words
 
 abbrev pub room_of : ℕ → ℕ → ℕ
 room_of bytes places = cond (eqb places 0) 0 (bytes / places)
 
--- the length of each, where the row was seen with so many places
+-- how long the part of each is, where the row was seen with so many places
 abbrev pub room_in : Lookup → List ℕ → ℕ
 room_in seen h = room_of (length h) seen.len
+
+abbrev pub lengths_in : Lookup → Holds → Lengths
+lengths_in seen h = record { bytes = room_in seen h.bytes; ends = room_in seen h.ends }
 
 -- ---- what was found
 
 abbrev pub is_found : Lookup → Bool
 is_found seen = is_some seen.own
 
-abbrev pub found_in : Lookup → List ℕ → Option Bound
-found_in seen h = found_of latest (is_found seen) (own_record seen) (area_at (room_in seen h) (own_place seen) h)
+abbrev pub found_in : Lookup → Holds → Option Bound
+found_in seen h = found_of latest (is_found seen) (own_record seen) (area_at (lengths_in seen h) (own_place seen) h)
 
 -- at which session places the row has room for the handle k, once no other handle has the place
 abbrev pub rooms_in : Lookup → List BoundRecord → ℕ → ℕ → Bool
@@ -105,9 +110,37 @@ Leaves s c p promote_unchecked w w' b b' a = PromotionLeaves s (not (eqb a.refus
 
 -- ---- the hold areas: the frame's changes at their place, or nothing
 
-abbrev pub holds_after : ℕ → ℕ → Option HoldWrite → List ℕ → List ℕ
-holds_after room i none h = h
-holds_after room i (some x) h = write h (i * room + x.offset) x.bytes
+-- with these closed segments of place i and so many bytes held, the word of the open one says whether it is closed, if there is a word left for it
+abbrev pub with_end : ℕ → ℕ → List ℕ → ℕ → List ℕ → List ℕ
+with_end room i closed len l = cond (ltb (length closed) room) (set l (i * room + length closed) (end_for (open_from 0 closed) len)) l
+
+-- a Whole writes that word too, and no other
+abbrev pub holds_after : Lengths → ℕ → Bool → Option HoldWrite → Holds → Holds
+holds_after room i closes none h = h
+holds_after room i closes (some x) h = record {
+  bytes = write h.bytes (i * room.bytes + x.offset) x.bytes;
+  ends = cond closes (with_end room.ends i (closed_ends (area_at room i h).ends 0 x.offset) (x.offset + length x.bytes) h.ends) h.ends;
+}
+
+-- the frame is a Whole
+abbrev pub closes_given : Given → Bool
+closes_given (damaged n) = false
+closes_given (intact (hello v e node kinds)) = false
+closes_given (intact (welcome e i)) = false
+closes_given (intact (bind h e lag k)) = false
+closes_given (intact (batch h e n part cs apps)) = is_whole part
+closes_given (intact (ack h n)) = false
+closes_given (intact (nack h r)) = false
+closes_given (intact (bound h m)) = false
+closes_given (intact (checked h e i)) = false
+
+abbrev pub closes_by : Counters → Call → Bool
+closes_by c (on_frame_held f) = closes_given (given c.version f)
+closes_by c (on_frame f) = closes_given (given c.version f)
+closes_by c (flush n) = false
+closes_by c (disconnected_from n) = false
+closes_by c promote = false
+closes_by c promote_unchecked = false
 
 abbrev pub writes_by : state.Settings → Counters → Option Bound → Call → Option HoldWrite
 writes_by L c found (on_frame_held f) = writes L c found (given c.version f)
@@ -164,17 +197,17 @@ keeps_counters c promote_unchecked = false
 
 -- ---- a call's core by value, as it is proved: no entry point's promise cites what follows
 
-pub record Stepped (s : Settings) (c : Replica) (seen : Lookup) (row : List BoundRecord) (call : Call) (w w' b b' h h' : List ℕ) (r : Outcome) : Type 0 where
-  pub is : outcome_of latest (room_in seen h) s.shape w' b' h' r ≡ core_step (settings_of s (room_in seen h)) (core_at (counters_of c) s.shape w b) (found_in seen h) (rooms_in seen row (handle_by call)) call
-  pub lands : Lands seen row (used_of w') (room_in seen h) (area_at (room_in seen h) (own_place seen) h') r.action
+pub record Stepped (s : Settings) (c : Replica) (seen : Lookup) (row : List BoundRecord) (call : Call) (w w' b b' : List ℕ) (h h' : Holds) (r : Outcome) : Type 0 where
+  pub is : outcome_of latest (lengths_in seen h) s.shape w' b' h' r ≡ core_step (settings_of s (room_in seen h.bytes)) (core_at (counters_of c) s.shape w b) (found_in seen h) (rooms_in seen row (handle_by call)) call
+  pub lands : Lands seen row (used_of w') (room_in seen h.bytes) (area_at (lengths_in seen h) (own_place seen) h') r.action
   pub kept : keeps_counters c call ≡ true → r.replica ≡ c
   pub rules : Rules s.shape w' b'
   pub more : used_of w ≤ used_of w'
   pub leaves : Leaves s.shape c (own_record seen).place call w w' b b' r.answer
-  pub holds : h' ≡ holds_after (room_in seen h) (own_place seen) (writes_by (settings_of s (room_in seen h)) (counters_of c) (found_in seen h) call) h
+  pub holds : h' ≡ holds_after (lengths_in seen h) (own_place seen) (closes_by (counters_of c) call) (writes_by (settings_of s (room_in seen h.bytes)) (counters_of c) (found_in seen h) call) h
 
 -- 25 where the rules are broken; else the step, where the record found is of the call's handle, if the call has one
-pub record StepIs (s : Settings) (c : Replica) (seen : Lookup) (row : List BoundRecord) (call : Call) (w w' b b' h h' : List ℕ) (r : Outcome) : Type 0 where
-  pub refuses : seen_allowed s.shape seen w b h ≡ false → (r ≡ leaving c (is_refused Refusal.rules_broken)) × ((w' ≡ w) × ((b' ≡ b) × (h' ≡ h)))
-  pub steps : seen_allowed s.shape seen w b h ≡ true → (is_found seen ≡ true → asks call ≡ true → (own_record seen).handle ≡ handle_by call) → Stepped s c seen row call w w' b b' h h' r
+pub record StepIs (s : Settings) (c : Replica) (seen : Lookup) (row : List BoundRecord) (call : Call) (w w' b b' : List ℕ) (h h' : Holds) (r : Outcome) : Type 0 where
+  pub refuses : seen_allowed s.shape seen w b h.bytes ≡ false → (r ≡ leaving c (is_refused Refusal.rules_broken)) × ((w' ≡ w) × ((b' ≡ b) × (h' ≡ h)))
+  pub steps : seen_allowed s.shape seen w b h.bytes ≡ true → (is_found seen ≡ true → asks call ≡ true → (own_record seen).handle ≡ handle_by call) → Stepped s c seen row call w w' b b' h h' r
   pub exact : Exact b' r.answer

@@ -15,6 +15,7 @@ use Rattle.model_frame.specs.Parse.{read_bytes, read_num, read_blob, read_text, 
 use Rattle.model_frame.specs.Reading.{record_msg_fields, read_change, read_changes, read_kinds, read_app_records, read_part, hello_fields, batch_fields, read_fields, read_body, decode}
 use Rattle.model_frame.specs.Writing.{blob_bytes, change_bytes, body_bytes, encode}
 use Rattle.model_session.specs.Session.{new_session, apply_all}
+use Rattle.standby_segments.specs.Segments.{hold_areas}
 use Rattle.standby_row.specs.Row.{free_record}
 use Rattle.store_areas.specs.Areas.{places_of, Rules}
 use Rattle.store_areas.proofs.Ruling.{rules_true}
@@ -43,7 +44,7 @@ x₀ =
       row = free_record ∷ free_record ∷ [];
       words = replicate 106 0;
       bytes = replicate 456 0;
-      holds = replicate 340 0;
+      holds = hold_areas (replicate 340 0) [];
     }
 
 rules₀ : Rules s₀.shape x₀.words x₀.bytes

@@ -35,8 +35,8 @@ use Rattle.standby_state.specs.declared.Settings.{Settings}
 use Rattle.standby_state.specs.declared.Answer.{Answer}
 use Rattle.standby_state.specs.Answers.{answer_of}
 use Rattle.standby_state.specs.Outcomes.{counters_of, settings_of}
-use Rattle.standby_step.specs.Steps.{handle_by, keeps_by, keeps_counters, due_now, changes_by, holds_after, writes_by}
-use Rattle.standby_step.specs.Calls.{room_all, RowChange, keeps, row_by, RowLeaves, CalledSteps}
+use Rattle.standby_step.specs.Steps.{handle_by, keeps_by, keeps_counters, due_now, changes_by, holds_after, closes_by, writes_by}
+use Rattle.standby_step.specs.Calls.{room_all, lengths_all, RowChange, keeps, row_by, RowLeaves, CalledSteps}
 use Rattle.theorem_whole_copy.specs.Demand.{Lent, stands_for, settings, Allowed, Calls, Runs, no_calls, call}
 use Rattle.theorem_whole_copy.proofs.Model.{one}
 use Rattle.theorem_two_actives.specs.TwoActives.{SameBut, OnlyCommitsRan, TwoActives}
@@ -55,9 +55,9 @@ module _ (s : Settings) where
   record Reached (room : ℕ) (st : Standby) (cs : List Call) (z : Lent) : Type 0 where
     ran : run (settings_of s room) st cs ≡ stands_for s z
     allowed : Allowed s z
-    same : room_all z.row z.holds ≡ room
+    same : room_all z.row z.holds.bytes ≡ room
 
-  reached : {room : ℕ} {x z : Lent} {cs : List Call} → Runs s x cs z → Allowed s x → room_all x.row x.holds ≡ room → (st : Standby) → stands_for s x ≡ st → Reached room st cs z
+  reached : {room : ℕ} {x z : Lent} {cs : List Call} → Runs s x cs z → Allowed s x → room_all x.row x.holds.bytes ≡ room → (st : Standby) → stands_for s x ≡ st → Reached room st cs z
   reached no_calls ok r st e = record { ran = sym e; allowed = ok; same = r }
   reached {room} (call {c} p rest) ok r st e =
       let o = one s room ok r p st e in
@@ -109,7 +109,7 @@ module _ (s : Settings) where
             same = record {
               counters = k;
               row = subst (λ (t : RowChange). RowLeaves t (step L st c).state.handles x.row y.row) e steps.row_leaves;
-              holds = steps.holds ∙ ap (λ (t : Option HoldWrite). holds_after (room_all x.row x.holds) (find_of x.row (handle_by c)) t x.holds) n;
+              holds = steps.holds ∙ ap (λ (t : Option HoldWrite). holds_after (lengths_all x.row x.holds) (find_of x.row (handle_by c)) (closes_by (counters_of x.counters) c) t x.holds) n;
               bytes = q.0;
             };
             words = q.1;
@@ -176,10 +176,10 @@ module _ (s : Settings) where
         raises = λ c e f y a t d p. ap (λ (z : Standby). z.counters.epoch) (after_state x ok c y a p) ∙ M.raises c e f t d;
         deposes = λ c e f y a t d p cs z rs v d₁ g z₁ b t₁ l p₁.
             let q = reached (call p rs) ok refl (stands_for s x) refl in
-            let rest = reached rs (one s (room_all x.row x.holds) ok refl p (stands_for s x) refl).allowed (one s (room_all x.row x.holds) ok refl p (stands_for s x) refl).same (stands_for s y) refl in
+            let rest = reached rs (one s (room_all x.row x.holds.bytes) ok refl p (stands_for s x) refl).allowed (one s (room_all x.row x.holds.bytes) ok refl p (stands_for s x) refl).same (stands_for s y) refl in
             let raised : y.counters.epoch.0 ≡ max x.counters.epoch.0 e = ap (λ (k : Standby). k.counters.epoch) (after_state x ok c y a p) ∙ M.raises c e f t d in
             let more : y.counters.epoch.0 ≤ z.counters.epoch.0 =
-            subst (λ (k : Standby). y.counters.epoch.0 ≤ k.counters.epoch) rest.ran (epoch_never_falls (settings_of s (room_all x.row x.holds)) (stands_for s y) cs) in
+            subst (λ (k : Standby). y.counters.epoch.0 ≤ k.counters.epoch) rest.ran (epoch_never_falls (settings_of s (room_all x.row x.holds.bytes)) (stands_for s y) cs) in
             let high : e ≤ z.counters.epoch.0 = omega (arith, raised, more) in
             lower_call z q.allowed d₁ z₁ b p₁ v g t₁ (model.lower_more e z.counters.epoch.0 g high l);
         not_by_bind = λ c h e lag k y a t p. ap (λ (z : Standby). z.counters.epoch) (after_state x ok c y a p) ∙ M.not_by_bind c h e lag k t;

@@ -62,14 +62,14 @@ module _ (s : Settings) (limit : ℕ) (A B : Session) (k : OwnKey) (h : ℕ) (b 
   -- THE THEOREM
   pub demand_3 : (cs : List Call) (z : Lent) (d : First s x.counters.epoch.0 (frames_of_a s limit A h b x) x cs z) → Claim s limit A B k h b x cs z d
   demand_3 cs z d =
-      let m = modelled s (room_all x.row x.holds) d start.allowed refl st refl in
+      let m = modelled s (room_all x.row x.holds.bytes) d start.allowed refl st refl in
       let c = theorem.demand_3 L limit A B k h b st model_start cs m.list in
       record {
         all_taken = m.taken c.all_taken;
         is_A_or_B = ap (λ (t : Standby). session_at t.places b.place) (sym m.ran) ∙ c.is_A_or_B ∙ ap (λ (t : Bool). some (cond t A B)) m.took;
         still_allowed = m.allowed;
         is_the_copy = λ more y plain r.
-            ap (λ (t : Standby). session_at t.places b.place) (sym (runs s (room_all x.row x.holds) r m.allowed m.same (run L st cs) (sym m.ran)) ∙ run_append L st cs more)
+            ap (λ (t : Standby). session_at t.places b.place) (sym (runs s (room_all x.row x.holds.bytes) r m.allowed m.same (run L st cs) (sym m.ran)) ∙ run_append L st cs more)
             ∙ c.is_the_copy more plain;
         copy_is_A_or_B = c.copy_is_A_or_B ∙ ap (λ (t : Bool). cond t A B) m.took;
       }
@@ -85,7 +85,7 @@ module _ (s : Settings) (limit : ℕ) (A B : Session) (k : OwnKey) (h : ℕ) (b 
 
     reaches : {z : Lent} → Runs s x (map on_frame_held fs) z → (gs : List Frame) → fs ≡ map encode gs → run L st (theorem.handed L x.counters.epoch.0 gs) ≡ stands_for s z
     reaches r gs e =
-        ap (run L st) (sym (ap (map on_frame_held) e ∙ map_map gs)) ∙ runs s (room_all x.row x.holds) r start.allowed refl st refl
+        ap (run L st) (sym (ap (map on_frame_held) e ∙ map_map gs)) ∙ runs s (room_all x.row x.holds.bytes) r start.allowed refl st refl
 
     -- a sending cut short leaves B
     pub cut_short : {z : Lent} (g : Frame) (left : List Frame) → sent.so.left ≡ g ∷ left → Runs s x (map on_frame_held fs) z → session_at (places_of s.shape z.words z.bytes) b.place ≡ some B

@@ -8,11 +8,12 @@ use lib.ListN.{replicate}
 use Rattle.model_text.specs.Printable.{is_printable_byte, is_printable, is_marks}
 use Rattle.model_session.specs.Session.{new_session, Holdable}
 use Rattle.model_session.specs.Whole.{whole_batches}
+use Rattle.standby_segments.specs.Segments.{hold_areas}
 use Rattle.standby_row.specs.declared.Bound.{Bound as BoundRecord}
 use Rattle.store_areas.specs.Areas.{place_at, places_of, Rules}
 use Rattle.store_areas.proofs.Ruling.{rules_true}
 use Rattle.store_areas.proofs.Lifting.{place_is, session_is}
-use Rattle.standby_changes.proofs.Held.{held_none}
+use Rattle.standby_segments.proofs.Meaning.{none_held}
 use Rattle.model_text.specs.Version.{latest}
 use Rattle.model_standby.specs.Store.{Place}
 use Rattle.model_standby.specs.State.{Bound}
@@ -34,14 +35,14 @@ x₀ =
       row = h₀ ∷ [];
       words = 1 ∷ replicate 81 0;
       bytes = replicate 224 0;
-      holds = replicate 122 0;
+      holds = hold_areas (replicate 122 0) [];
     }
 
 abbrev p₀ : Place
 p₀ = place_at s₀.shape x₀.words x₀.bytes 0
 
 abbrev b₀ : Bound
-b₀ = bound_of latest h₀ (replicate 122 0)
+b₀ = bound_of latest h₀ (hold_areas (replicate 122 0) [])
 
 rules₀ : Rules s₀.shape x₀.words x₀.bytes
 rules₀ = record { room = record { bytes_limit = omega arith; messages_limit = omega arith; words_long = omega arith; bytes_long = omega arith }; used = omega arith; pending = omega arith }
@@ -71,7 +72,7 @@ a_start = record {
   its_key =
       own_made (places_of s₀.shape x₀.words x₀.bytes) 0 (record { key = p₀.key; earlier = 0 })
       (ap (map (λ (p : Place). p.key)) (place_is s₀.shape x₀.words x₀.bytes 0 (omega arith))) refl;
-  nothing_held = held_none latest [] (omega arith);
+  nothing_held = none_held latest [];
   suits_so = refl;
   area = omega arith;
   handle_u32 = omega arith;

@@ -7,7 +7,7 @@ use mathlib.Core.Option.{Option, none, some, map}
 use Prim.Native.Nat.{ℕ, zero, suc, ◌+◌, ◌≤◌, ◌<◌}
 use native.Mathlib.Omega.{arith}
 use lib.Dec.{T, leb, ltb}
-use lib.ListN.{length, take, replicate, length-replicate}
+use lib.ListN.{length, replicate, length-replicate}
 use borrow.Author.Tests.{lt-ltb, le-ltb}
 use Rattle.model_text.specs.Printable.{is_printable_byte, is_printable, is_marks}
 use Rattle.model_text.specs.Version.{is_version, latest}
@@ -15,20 +15,22 @@ use Rattle.model_frame.specs.Frame.{Change, reset}
 use Rattle.model_session.specs.Session.{Session, Msg, Holdable, top, suits, is_bytes}
 use Rattle.model_session.specs.Sender.{new_sender, cannot_send}
 use Rattle.model_session.specs.Whole.{whole_batches, batches_from, stamp_part, send_msg, batch_if}
+use Rattle.standby_segments.specs.Segments.{hold_areas}
 use Rattle.standby_row.specs.declared.Bound.{Bound as BoundRecord}
 use Rattle.standby_row.specs.Row.{apart_of, broken_of, zero_or_next}
 use Rattle.store_areas.specs.declared.Shape.{Shape}
 use Rattle.store_areas.specs.Areas.{place_at, places_of, Rules}
 use Rattle.store_areas.proofs.Ruling.{rules_true}
 use Rattle.store_areas.proofs.Lifting.{place_is, session_is}
-use Rattle.standby_changes.proofs.Held.{held_none}
+use Rattle.standby_segments.proofs.Meaning.{none_held}
+use Rattle.standby_handles.specs.Rows.{first_area}
 use Rattle.model_standby.specs.Store.{Place}
 use Rattle.model_standby.specs.State.{Bound}
 use Rattle.model_standby.proofs.Places.{own_made}
 use Rattle.standby_part.specs.State.{bound_of}
 use Rattle.standby_state.specs.declared.Settings.{Settings}
 use Rattle.standby_step.specs.Steps.{room_of}
-use Rattle.standby_step.specs.Calls.{room_all}
+use Rattle.standby_step.specs.Calls.{room_all, lengths_all}
 use Rattle.std.specs.Prelude.{None, Result, Ok}
 use Rattle.base_refusals.specs.declared.Refusal.{Refusal}
 use Rattle.active.specs.declared.Line.{Line}
@@ -36,7 +38,7 @@ use Rattle.active.specs.declared.Sending.{Sending}
 use Rattle.active.specs.Whole.{branch_limit, limit_of, stored_at, SendStart, ready, start_of, start_from, SendsWhole, SendCalls, SentWhole}
 use Rattle.active.specs.Whole as whole
 use Rattle.active.proofs.Giving.{whole_given}
-use Rattle.theorem_whole_copy.specs.Demand.{Lent, stands_for, Start}
+use Rattle.theorem_whole_copy.specs.Demand.{Lent, Start}
 use Rattle.theorem_whole_copy.specs.Lines.{LineCalls, nothing, too_short, frame, Asked, OnLine, HeadOffice, BranchLine, Cut}
 use Rattle.theorem_whole_copy.proofs.Demand3.{demand_3, all_sent}
 
@@ -197,14 +199,18 @@ module _ (limit : ℕ) (under : limit < 33554432) where
         row = h₂ ∷ [];
         words = 1 ∷ replicate 85 0;
         bytes = replicate (224 + size) 0;
-        holds = replicate (166 + size) 0;
+        holds = hold_areas (replicate (166 + size) 0) [];
       }
 
   abbrev place₂ : Place
   place₂ = place_at s₂.shape x₂.words x₂.bytes 0
 
   abbrev b₂ : Bound
-  b₂ = bound_of latest h₂ (take (room_all x₂.row x₂.holds) x₂.holds)
+  b₂ = bound_of latest h₂ (first_area (lengths_all x₂.row x₂.holds) x₂.holds)
+
+  -- no words are lent
+  abbrev b₂_ends : List ℕ
+  b₂_ends = (first_area (lengths_all x₂.row x₂.holds) x₂.holds).ends
 
   rules₂ : Rules s₂.shape x₂.words x₂.bytes
   rules₂ =
@@ -217,7 +223,7 @@ module _ (limit : ℕ) (under : limit < 33554432) where
   start₂ : Start s₂ limit A₂ place₂.stored.session (record { key = place₂.key; earlier = 0 }) 9 b₂ x₂
   start₂ =
       record {
-        allowed = (λ j. rules_true s₂.shape x₂.words x₂.bytes rules₂ j && row_kept (room_all x₂.row x₂.holds) j);
+        allowed = (λ j. rules_true s₂.shape x₂.words x₂.bytes rules₂ j && row_kept (room_all x₂.row x₂.holds.bytes) j);
         A_held = A₂_held;
         unpromoted = refl;
         bound_so = refl;
@@ -225,9 +231,9 @@ module _ (limit : ℕ) (under : limit < 33554432) where
         its_key =
             own_made (places_of s₂.shape x₂.words x₂.bytes) 0 (record { key = place₂.key; earlier = 0 })
             (ap (map (λ (p : Place). p.key)) (place_is s₂.shape x₂.words x₂.bytes 0 (omega arith))) refl;
-        nothing_held = held_none latest [] (omega arith);
+        nothing_held = none_held latest b₂_ends;
         suits_so = refl;
-        area = omega (arith, zeros_long (166 + size), room_one (length x₂.holds));
+        area = omega (arith, zeros_long (166 + size), room_one (length x₂.holds.bytes));
         handle_u32 = omega arith;
         epoch_u64 = omega arith;
         sendable = omega (arith, few_batches limit A₂);

@@ -17,11 +17,12 @@ use Rattle.model_frame.specs.Reading.{read_changes, read_app_records, read_part,
 use Rattle.model_frame.specs.Writing.{body_bytes, encode}
 use Rattle.model_session.specs.Session.{Session, Holdable}
 use Rattle.model_session.specs.Whole.{whole_batches, whole_frames}
+use Rattle.standby_segments.specs.Segments.{hold_areas}
 use Rattle.standby_row.specs.declared.Bound.{Bound as BoundRecord}
 use Rattle.store_areas.specs.Areas.{place_at, places_of, Rules}
 use Rattle.store_areas.proofs.Ruling.{rules_true}
 use Rattle.store_areas.proofs.Lifting.{place_is, session_is}
-use Rattle.standby_changes.proofs.Held.{held_none}
+use Rattle.standby_segments.proofs.Meaning.{none_held}
 use Rattle.model_text.specs.Version.{latest}
 use Rattle.model_standby.specs.Answer.{given, refused, accepted}
 use Rattle.model_standby.specs.Answer as answer
@@ -72,14 +73,14 @@ x₁ =
       row = h₁ ∷ [];
       words = 1 ∷ replicate 85 0;
       bytes = replicate 225 0;
-      holds = replicate 167 0;
+      holds = hold_areas (replicate 167 0) [];
     }
 
 abbrev place₁ : Place
 place₁ = place_at s₁.shape x₁.words x₁.bytes 0
 
 abbrev b₁ : Bound
-b₁ = bound_of latest h₁ (replicate 167 0)
+b₁ = bound_of latest h₁ (hold_areas (replicate 167 0) [])
 
 abbrev B₁ : Session
 B₁ = place₁.stored.session
@@ -100,7 +101,7 @@ start₁ =
       its_key =
           own_made (places_of s₁.shape x₁.words x₁.bytes) 0 (record { key = place₁.key; earlier = 0 })
           (ap (map (λ (p : Place). p.key)) (place_is s₁.shape x₁.words x₁.bytes 0 (omega arith))) refl;
-      nothing_held = held_none latest [] (omega arith);
+      nothing_held = none_held latest [];
       suits_so = refl;
       area = omega arith;
       handle_u32 = omega arith;
@@ -140,7 +141,7 @@ calls₂ = on_frame_held (encode f₁) ∷ disconnected_from 1 ∷ on_frame (enc
 said_26 : {y : Lent} {a : Answer} → Calls s₁ (on_frame no_frame) x₁ y a → Aside 1 5 no_frame (answer_of y.bytes a)
 unfolding given decode
 said_26 {y} {a} p =
-    let o = one s₁ (room_all x₁.row x₁.holds) start₁.allowed refl p (stands_for s₁ x₁) refl in
+    let o = one s₁ (room_all x₁.row x₁.holds.bytes) start₁.allowed refl p (stands_for s₁ x₁) refl in
     let is : answer_of y.bytes a ≡ refused 26 = o.answer ∙ ap (λ (r : Result). r.answer) (damaged_frame (settings s₁ x₁) (stands_for s₁ x₁) no_frame 26 refl) in
     subst (Aside 1 5 no_frame) (sym is) (refused_outside {n = 26} tt)
 

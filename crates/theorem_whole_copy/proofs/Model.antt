@@ -30,9 +30,9 @@ module _ (s : Settings) (room : ℕ) where
     pub state : stands_for s y ≡ (step L st c).state
     pub answer : answer_of y.bytes a ≡ (step L st c).answer
     pub allowed : Allowed s y
-    pub same : room_all y.row y.holds ≡ room
+    pub same : room_all y.row y.holds.bytes ≡ room
 
-  pub one : {x y : Lent} {c : Call} {a : Answer} → Allowed s x → room_all x.row x.holds ≡ room → Calls s c x y a → (st : Standby) → stands_for s x ≡ st → After st c y a
+  pub one : {x y : Lent} {c : Call} {a : Answer} → Allowed s x → room_all x.row x.holds.bytes ≡ room → Calls s c x y a → (st : Standby) → stands_for s x ≡ st → After st c y a
   one {x} {y} {c} {a} ok r p st e =
       let q = p.steps ok in
       let is : ◌≡◌ {A = Result} (record { state = stands_for s y; answer = answer_of y.bytes a }) (step L st c) = q.is ∙ (λ j. step (settings_of s (r j)) (e j) c) in
@@ -43,7 +43,7 @@ module _ (s : Settings) (room : ℕ) where
         same = (λ j. room_of (q.holds_length j) (q.row_length j)) ∙ r;
       }
 
-  pub runs : {x z : Lent} {cs : List Call} → Runs s x cs z → Allowed s x → room_all x.row x.holds ≡ room → (st : Standby) → stands_for s x ≡ st → run L st cs ≡ stands_for s z
+  pub runs : {x z : Lent} {cs : List Call} → Runs s x cs z → Allowed s x → room_all x.row x.holds.bytes ≡ room → (st : Standby) → stands_for s x ≡ st → run L st cs ≡ stands_for s z
   runs no_calls ok r st e = sym e
   runs (call {c} p rest) ok r st e =
       let o = one ok r p st e in
@@ -56,9 +56,9 @@ module _ (s : Settings) (room : ℕ) where
       pub taken : model.ModelAllTaken list → AllTaken s d
       pub ran : run L st cs ≡ stands_for s z
       pub allowed : Allowed s z
-      pub same : room_all z.row z.holds ≡ room
+      pub same : room_all z.row z.holds.bytes ≡ room
 
-    pub modelled : {left : List Frame} {x z : Lent} {cs : List Call} (d : First s e left x cs z) → Allowed s x → room_all x.row x.holds ≡ room → (st : Standby) → stands_for s x ≡ st → Modelled d st
+    pub modelled : {left : List Frame} {x z : Lent} {cs : List Call} (d : First s e left x cs z) → Allowed s x → room_all x.row x.holds.bytes ≡ room → (st : Standby) → stands_for s x ≡ st → Modelled d st
     modelled ends ok r st i = record { list = model.list_ends; took = refl; taken = λ t. t; ran = sym i; allowed = ok; same = r }
     modelled (ours {left} {c} hands p rest) ok r st i =
         let o = one ok r p st i in

@@ -6,7 +6,7 @@ use mathlib.Core.Bool.{Bool, true, false, cond, ◌&&◌, ◌||◌, true≢false
 use mathlib.Core.List.{List, [], ◌∷◌}
 use mathlib.Core.Option.{none, some}
 use lib.Dec.{T, leb, ltb}
-use lib.ListN.{length, get_or, take, drop}
+use lib.ListN.{length, get_or}
 use borrow.Author.Tests.{leb-false}
 use Rattle.base_laws.proofs.Lists.{both}
 use Rattle.model_frame.specs.Frame.{Key, batch}
@@ -29,14 +29,15 @@ use Rattle.model_standby.specs.Demand.{ModelStart}
 use Rattle.model_standby.specs.OneHandle.{RowRules, calls_bind, binds_again}
 use Rattle.model_standby.specs.OneHandle as model
 use Rattle.model_standby.proofs.OneHandle.{one_handle_each, starts_after}
+use Rattle.standby_segments.specs.Segments.{Holds, Lengths}
 use Rattle.standby_row.specs.declared.Bound.{Bound as BoundRecord}
 use Rattle.standby_row.specs.Row.{is_used, broken_of, apart_of}
-use Rattle.standby_handles.specs.Rows.{row_of}
+use Rattle.standby_handles.specs.Rows.{first_area, areas_behind, row_of}
 use Rattle.standby_part.specs.State.{bound_of}
 use Rattle.standby_state.specs.declared.Settings.{Settings}
 use Rattle.standby_state.specs.declared.Answer.{Answer}
 use Rattle.standby_state.specs.Outcomes.{settings_of}
-use Rattle.standby_step.specs.Calls.{room_all}
+use Rattle.standby_step.specs.Calls.{room_all, lengths_all}
 use Rattle.standby_step.proofs.Rows.{Whole, whole_of, allowed_apart}
 use Rattle.theorem_whole_copy.specs.Demand.{Lent, stands_for, spoken, settings, Allowed, Runs, no_calls, call, Start}
 use Rattle.theorem_whole_copy.specs.OneHandle.{Binds, bound_again, Removed, SentToNew, OneHandle}
@@ -49,18 +50,18 @@ or_l : (a b : Bool) → (a || b) ≡ false → a ≡ false
 or_l true b e = absurd (true≢false e)
 or_l false b e = refl
 
-module _ (room used : ℕ) where
-  row_there : (row : List BoundRecord) (h : List ℕ) → Whole used room row → Each (Used (λ (b : Bound). b.place < used)) (row_of (bound_of latest) room row h)
+module _ (room : Lengths) (used : ℕ) where
+  row_there : (row : List BoundRecord) (h : Holds) → Whole used room.bytes row → Each (Used (λ (b : Bound). b.place < used)) (row_of (bound_of latest) room row h)
   row_there [] h n = tt
-  row_there (g ∷ row) h n = (go (is_used g) n.0, row_there row (drop room h) n.1)
+  row_there (g ∷ row) h n = (go (is_used g) n.0, row_there row (areas_behind room h) n.1)
     where
-      go : (u : Bool) → (u && (leb used g.place || ltb room g.held_len)) ≡ false → Used (λ (b : Bound). b.place < used) (cond u (some (g.handle, bound_of latest g (take room h))) none)
-      go true e = leb-false used g.place (or_l (leb used g.place) (ltb room g.held_len) e)
+      go : (u : Bool) → (u && (leb used g.place || ltb room.bytes g.held_len)) ≡ false → Used (λ (b : Bound). b.place < used) (cond u (some (g.handle, bound_of latest g (first_area room h))) none)
+      go true e = leb-false used g.place (or_l (leb used g.place) (ltb room.bytes g.held_len) e)
       go false e = tt
 
-row_long : (room : ℕ) (row : List BoundRecord) (h : List ℕ) → length (row_of (bound_of latest) room row h) ≡ length row
+row_long : (room : Lengths) (row : List BoundRecord) (h : Holds) → length (row_of (bound_of latest) room row h) ≡ length row
 row_long room [] h = refl
-row_long room (g ∷ row) h = ap suc (row_long room row (drop room h))
+row_long room (g ∷ row) h = ap suc (row_long room row (areas_behind room h))
 
 module _ (s : Settings) where
   row_kept : (x : Lent) → Allowed s x → apart_of x.row ≡ true
@@ -72,11 +73,11 @@ module _ (s : Settings) where
         places_few = omega (arith, places_length s.shape x.words x.bytes, rules.used);
         handles_there =
             subst (λ (n : ℕ). Each (Used (λ (b : Bound). b.place < n)) (stands_for s x).handles) (sym (places_length s.shape x.words x.bytes))
-            (row_there (room_all x.row x.holds) (get_or x.words 0 0) x.row x.holds (whole_of (get_or x.words 0 0) (room_all x.row x.holds) x.row (both (apart_of x.row) _ two.1).1));
+            (row_there (lengths_all x.row x.holds) (get_or x.words 0 0) x.row x.holds (whole_of (get_or x.words 0 0) (room_all x.row x.holds.bytes) x.row (both (apart_of x.row) _ two.1).1));
         row_apart = allowed_apart s x.counters x.row x.words x.bytes x.holds ok;
       }
     where
-      two : (allowed s.shape x.words x.bytes ≡ true) × ((apart_of x.row && leb (length x.row) (broken_of x.row (get_or x.words 0 0) (room_all x.row x.holds))) ≡ true)
+      two : (allowed s.shape x.words x.bytes ≡ true) × ((apart_of x.row && leb (length x.row) (broken_of x.row (get_or x.words 0 0) (room_all x.row x.holds.bytes))) ≡ true)
       two = both (allowed s.shape x.words x.bytes) _ ok
 
       rules : Rules s.shape x.words x.bytes
@@ -91,16 +92,16 @@ module _ (s : Settings) where
     record Ends (st : Standby) (cs : List Call) (z : Lent) : Type 0 where
       ran : stands_for s z ≡ run L st cs
       allowed_so : Allowed s z
-      same : room_all z.row z.holds ≡ R
+      same : room_all z.row z.holds.bytes ≡ R
 
-    ends : {x z : Lent} {cs : List Call} → Runs s x cs z → Allowed s x → room_all x.row x.holds ≡ R → (st : Standby) → stands_for s x ≡ st → Ends st cs z
+    ends : {x z : Lent} {cs : List Call} → Runs s x cs z → Allowed s x → room_all x.row x.holds.bytes ≡ R → (st : Standby) → stands_for s x ≡ st → Ends st cs z
     ends no_calls ok r st e = record { ran = e; allowed_so = ok; same = r }
     ends (call {c} p rest) ok r st e =
         let o = one s R ok r p st e in
         let m = ends rest o.allowed o.same (step L st c).state o.state in
         record { ran = m.ran; allowed_so = m.allowed_so; same = m.same }
 
-    again : (g : ℕ) {x z : Lent} {cs : List Call} (r : Runs s x cs z) → Allowed s x → room_all x.row x.holds ≡ R → (st : Standby) → stands_for s x ≡ st → binds_again L g st cs ≡ bound_again s g r
+    again : (g : ℕ) {x z : Lent} {cs : List Call} (r : Runs s x cs z) → Allowed s x → room_all x.row x.holds.bytes ≡ R → (st : Standby) → stands_for s x ≡ st → binds_again L g st cs ≡ bound_again s g r
     again g no_calls ok r st e = refl
     again g (call {c} p rest) ok r st e =
         let o = one s R ok r p st e in
@@ -109,7 +110,7 @@ module _ (s : Settings) where
 
   module _ (x : Lent) (ok : Allowed s x) where
     abbrev R₀ : ℕ
-    R₀ = room_all x.row x.holds
+    R₀ = room_all x.row x.holds.bytes
 
     abbrev L₀ : state.Settings
     L₀ = settings s x
@@ -151,7 +152,7 @@ module _ (s : Settings) where
           after r = ends R₀ r first.allowed first.same (step L₀ st c).state first.state
 
       module _ (limit : ℕ) (A : Session) (held : Holdable s.shape.bytes s.shape.messages A) (suit : suits (spoken x) A.stamp ≡ true)
-          (area : hold_length s.shape.bytes s.shape.messages A.stamp ≤ room_all x.row x.holds) (h_u32 : h < 2 ^ 32)
+          (area : hold_length s.shape.bytes s.shape.messages A.stamp ≤ room_all x.row x.holds.bytes) (h_u32 : h < 2 ^ 32)
           (e_u64 : x.counters.epoch.0 ≤ top) (few : length (whole_batches limit A) ≤ top) where
         -- its session place, and the session there
         abbrev P : ℕ
@@ -204,7 +205,7 @@ module _ (s : Settings) where
           never_full = λ long cs z r c y a called e.
               let z₁ = ends R₀ r ok refl st refl in
               let o = one s R₀ z₁.allowed_so z₁.same called (run L₀ st cs) z₁.ran in
-              theorem.never_full (omega (arith, long, row_long R₀ x.row x.holds)) cs c (sym o.answer ∙ e);
+              theorem.never_full (omega (arith, long, row_long (lengths_all x.row x.holds) x.row x.holds)) cs c (sym o.answer ∙ e);
           removes = λ c h g k b y a q n f at. removed q g b (theorem.removes c h g k b (binds q) n f at);
           sent_to_new = λ limit A c h k y a q held suit area h_u32 e_u64 few. sent q limit A held suit area h_u32 e_u64 few;
         }

@@ -11,6 +11,7 @@ use Rattle.model_frame.specs.Parse.{is_empty}
 use Rattle.model_frame.specs.Writing.{encode}
 use Rattle.model_session.specs.Session.{Session, Holdable, top, suits}
 use Rattle.model_session.specs.Whole.{whole_batches, whole_frames, hold_length}
+use Rattle.standby_segments.specs.Segments.{Holds}
 use Rattle.standby_row.specs.declared.Bound.{Bound as BoundRecord}
 use Rattle.store_areas.specs.Areas.{places_of}
 use Rattle.model_standby.specs.Answer.{accepted}
@@ -27,13 +28,13 @@ use Rattle.standby_state.specs.Answers.{answer_of}
 use Rattle.standby_state.specs.Outcomes.{settings_of}
 use Rattle.standby_step.specs.Calls.{room_all, standby_of, allowed_all, Called}
 
--- what is lent for each call: the counters, the row of handles, the store's two areas, the hold areas
+-- what is lent for each call: the counters, the row of handles, the store's two areas, the hold areas with the ends of their segments
 pub record Lent : Type 0 where
   pub counters : Replica
   pub row : List BoundRecord
   pub words : List ℕ
   pub bytes : List ℕ
-  pub holds : List ℕ
+  pub holds : Holds
 
 -- the version that the connection speaks: a call's frame is read in it
 abbrev pub spoken : Lent → ℕ
@@ -45,11 +46,11 @@ module _ (s : Settings) where
   stands_for x = standby_of s x.counters x.row x.words x.bytes x.holds
 
   abbrev pub settings : Lent → state.Settings
-  settings x = settings_of s (room_all x.row x.holds)
+  settings x = settings_of s (room_all x.row x.holds.bytes)
 
   -- "from any state docs/AREAS.md allows"
   abbrev pub Allowed : Lent → Type 0
-  Allowed x = allowed_all s x.row x.words x.bytes x.holds ≡ true
+  Allowed x = allowed_all s x.row x.words x.bytes x.holds.bytes ≡ true
 
   -- one call, from x to y, with the answer a: the entry point's promise (Entries.antt)
   abbrev pub Calls : Call → Lent → Lent → Answer → Type 0
@@ -98,7 +99,7 @@ module _ (s : Settings) where
     pub its_key : own_key (stands_for x).places b.place ≡ some k
     pub nothing_held : b.held ≡ []
     pub suits_so : suits (spoken x) A.stamp ≡ true
-    pub area : hold_length s.shape.bytes s.shape.messages A.stamp ≤ room_all x.row x.holds
+    pub area : hold_length s.shape.bytes s.shape.messages A.stamp ≤ room_all x.row x.holds.bytes
     pub handle_u32 : h < 2 ^ 32
     pub epoch_u64 : x.counters.epoch.0 ≤ top
     pub sendable : b.number + length (whole_batches limit A) ≤ top

@@ -8,6 +8,7 @@ use contract.Lifetimes.{Lfts}
 use denote.Triple.Clauses.{AtExit}
 use borrow.Fn.World.{World, Pr, ArgsD, ResD}
 use Rattle.model_standby.specs.State.{on_frame_held, on_frame, flush, disconnected_from}
+use Rattle.standby_segments.specs.Segments.{hold_areas}
 use Rattle.replica.specs.contracts.on_frame_held as on-frame-held
 use Rattle.replica.specs.contracts.on_frame as on-frame
 use Rattle.replica.specs.contracts.flush as flush-call
@@ -28,36 +29,36 @@ pub record Joined (m : World) : Type 2 where
   pub on_frame_held_gives :
       (κs : Lfts (on-frame-held.signature).lifetimes) (a : ArgsD on-frame-held.signature κs) (r : ResD on-frame-held.signature κs) (e : AtExit on-frame-held.ended κs) →
       Gives m ((on-frame-held.clauses m.𝓛 m.𝓜.mem m.𝓡.run κs a).ensures tt r e)
-      (Calls a.1.1.1.1.1.1.0 (on_frame_held a.1.1.1.1.1.0.now)
-      (record { counters = a.0.now; row = a.1.0.now; words = a.1.1.0.now; bytes = a.1.1.1.0.now; holds = a.1.1.1.1.0.now })
-      (record { counters = e.0.now; row = e.1.0.now; words = e.1.1.0.now; bytes = e.1.1.1.0.now; holds = e.1.1.1.1.0.now }) r)
+      (Calls a.1.1.1.1.1.1.1.0 (on_frame_held a.1.1.1.1.1.1.0.now)
+      (record { counters = a.0.now; row = a.1.0.now; words = a.1.1.0.now; bytes = a.1.1.1.0.now; holds = hold_areas a.1.1.1.1.0.now a.1.1.1.1.1.0.now })
+      (record { counters = e.0.now; row = e.1.0.now; words = e.1.1.0.now; bytes = e.1.1.1.0.now; holds = hold_areas e.1.1.1.1.0.now e.1.1.1.1.1.0.now }) r)
   pub on_frame_held_asks_nothing :
       (κs : Lfts (on-frame-held.signature).lifetimes) (a : ArgsD on-frame-held.signature κs) →
       AsksNothing m ((on-frame-held.clauses m.𝓛 m.𝓜.mem m.𝓡.run κs a).requires tt)
   pub on_frame_gives :
       (κs : Lfts (on-frame.signature).lifetimes) (a : ArgsD on-frame.signature κs) (r : ResD on-frame.signature κs) (e : AtExit on-frame.ended κs) →
       Gives m ((on-frame.clauses m.𝓛 m.𝓜.mem m.𝓡.run κs a).ensures tt r e)
-      (Calls a.1.1.1.1.1.1.0 (on_frame a.1.1.1.1.1.0.now)
-      (record { counters = a.0.now; row = a.1.0.now; words = a.1.1.0.now; bytes = a.1.1.1.0.now; holds = a.1.1.1.1.0.now })
-      (record { counters = e.0.now; row = e.1.0.now; words = e.1.1.0.now; bytes = e.1.1.1.0.now; holds = e.1.1.1.1.0.now }) r)
+      (Calls a.1.1.1.1.1.1.1.0 (on_frame a.1.1.1.1.1.1.0.now)
+      (record { counters = a.0.now; row = a.1.0.now; words = a.1.1.0.now; bytes = a.1.1.1.0.now; holds = hold_areas a.1.1.1.1.0.now a.1.1.1.1.1.0.now })
+      (record { counters = e.0.now; row = e.1.0.now; words = e.1.1.0.now; bytes = e.1.1.1.0.now; holds = hold_areas e.1.1.1.1.0.now e.1.1.1.1.1.0.now }) r)
   pub on_frame_asks_nothing :
       (κs : Lfts (on-frame.signature).lifetimes) (a : ArgsD on-frame.signature κs) →
       AsksNothing m ((on-frame.clauses m.𝓛 m.𝓜.mem m.𝓡.run κs a).requires tt)
   pub flush_gives :
       (κs : Lfts (flush-call.signature).lifetimes) (a : ArgsD flush-call.signature κs) (r : ResD flush-call.signature κs) (e : AtExit flush-call.ended κs) →
       Gives m ((flush-call.clauses m.𝓛 m.𝓜.mem m.𝓡.run κs a).ensures tt r e)
-      (Calls a.1.1.1.1.1.1.0 (flush a.1.1.1.1.1.0)
-      (record { counters = a.0.now; row = a.1.0.now; words = a.1.1.0.now; bytes = a.1.1.1.0.now; holds = a.1.1.1.1.0.now })
-      (record { counters = e.0.now; row = e.1.0.now; words = e.1.1.0.now; bytes = e.1.1.1.0.now; holds = e.1.1.1.1.0.now }) r)
+      (Calls a.1.1.1.1.1.1.1.0 (flush a.1.1.1.1.1.1.0)
+      (record { counters = a.0.now; row = a.1.0.now; words = a.1.1.0.now; bytes = a.1.1.1.0.now; holds = hold_areas a.1.1.1.1.0.now a.1.1.1.1.1.0.now })
+      (record { counters = e.0.now; row = e.1.0.now; words = e.1.1.0.now; bytes = e.1.1.1.0.now; holds = hold_areas e.1.1.1.1.0.now e.1.1.1.1.1.0.now }) r)
   pub flush_asks_nothing :
       (κs : Lfts (flush-call.signature).lifetimes) (a : ArgsD flush-call.signature κs) →
       AsksNothing m ((flush-call.clauses m.𝓛 m.𝓜.mem m.𝓡.run κs a).requires tt)
   pub disconnected_from_gives :
       (κs : Lfts (disconnected-from.signature).lifetimes) (a : ArgsD disconnected-from.signature κs) (r : ResD disconnected-from.signature κs) (e : AtExit disconnected-from.ended κs) →
       Gives m ((disconnected-from.clauses m.𝓛 m.𝓜.mem m.𝓡.run κs a).ensures tt r e)
-      (Calls a.1.1.1.1.1.1.0 (disconnected_from a.1.1.1.1.1.0)
-      (record { counters = a.0.now; row = a.1.0.now; words = a.1.1.0.now; bytes = a.1.1.1.0.now; holds = a.1.1.1.1.0.now })
-      (record { counters = e.0.now; row = e.1.0.now; words = e.1.1.0.now; bytes = e.1.1.1.0.now; holds = e.1.1.1.1.0.now }) r)
+      (Calls a.1.1.1.1.1.1.1.0 (disconnected_from a.1.1.1.1.1.1.0)
+      (record { counters = a.0.now; row = a.1.0.now; words = a.1.1.0.now; bytes = a.1.1.1.0.now; holds = hold_areas a.1.1.1.1.0.now a.1.1.1.1.1.0.now })
+      (record { counters = e.0.now; row = e.1.0.now; words = e.1.1.0.now; bytes = e.1.1.1.0.now; holds = hold_areas e.1.1.1.1.0.now e.1.1.1.1.1.0.now }) r)
   pub disconnected_from_asks_nothing :
       (κs : Lfts (disconnected-from.signature).lifetimes) (a : ArgsD disconnected-from.signature κs) →
       AsksNothing m ((disconnected-from.clauses m.𝓛 m.𝓜.mem m.𝓡.run κs a).requires tt)

@@ -1,7 +1,7 @@
 -- WHOLE SENDING ON EACH LINE (document 02, U9). What is shown of a sending for every limit (`SentWhole`, `Start`, `Claim`) is used here for the two lines' own: what
 -- `begin` answers on a line, and what calls of `send_whole` give from there, each as its contract promises (that these contracts do is Entries.antt).
 -- Assumes nothing.
-use Rattle.std.specs.Prelude.{◌≡◌, ℕ, ◌+◌, ◌^◌, ◌≤◌, ◌<◌, Bool, true, List, [], ◌∷◌, map, length, take, None, Some, Result, Ok, Err}
+use Rattle.std.specs.Prelude.{◌≡◌, ℕ, ◌+◌, ◌^◌, ◌≤◌, ◌<◌, true, List, [], ◌∷◌, map, length, take, None, Some, Result, Ok, Err}
 use Rattle.std.proofs.Math.Option.{some}
 use Rattle.base_refusals.specs.declared.Refusal as why
 use Rattle.model_text.specs.Version.{is_version}

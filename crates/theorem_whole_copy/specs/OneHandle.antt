@@ -53,10 +53,10 @@ module _ (s : Settings) where
         → (u : Lent) (a : Answer) → Calls s d z u a → answer_of u.bytes a ≡ refused Refusal.unbound
     -- what g held, its byte sum and its number are nothing to what comes, also when it is bound again: from areas that stand for the same but for these the run
     -- is the same,
-    pub forgotten : (x₁ : Lent) (b₁ : Bound) → Allowed s x₁ → room_all x₁.row x₁.holds ≡ room_all x.row x.holds → stands_for s x₁ ≡ with_handle (stands_for s x) g b₁ → b₁.place ≡ b.place
+    pub forgotten : (x₁ : Lent) (b₁ : Bound) → Allowed s x₁ → room_all x₁.row x₁.holds.bytes ≡ room_all x.row x.holds.bytes → stands_for s x₁ ≡ with_handle (stands_for s x) g b₁ → b₁.place ≡ b.place
         → (cs : List Call) (z z₁ : Lent) → Runs s x (c ∷ cs) z → Runs s x₁ (c ∷ cs) z₁ → stands_for s z₁ ≡ stands_for s z
     -- and so are the answers that come after
-    pub same_answers : (x₁ : Lent) (b₁ : Bound) → Allowed s x₁ → room_all x₁.row x₁.holds ≡ room_all x.row x.holds → stands_for s x₁ ≡ with_handle (stands_for s x) g b₁ → b₁.place ≡ b.place
+    pub same_answers : (x₁ : Lent) (b₁ : Bound) → Allowed s x₁ → room_all x₁.row x₁.holds.bytes ≡ room_all x.row x.holds.bytes → stands_for s x₁ ≡ with_handle (stands_for s x) g b₁ → b₁.place ≡ b.place
         → (cs : List Call) (z z₁ : Lent) → Runs s x (c ∷ cs) z → Runs s x₁ (c ∷ cs) z₁ → (d : Call) (u u₁ : Lent) (a a₁ : Answer) → Calls s d z u a → Calls s d z₁ u₁ a₁
         → answer_of u₁.bytes a₁ ≡ answer_of u.bytes a
 
@@ -81,5 +81,5 @@ module _ (s : Settings) where
     pub removes : (c : Call) (h g : ℕ) (k : Key) (b : Bound) (y : Lent) (a : Answer) → Binds x y c a h k → eqb h g ≡ false → find g (stands_for s x).handles ≡ some b
         → b.place ≡ place_of k (stands_for s x).places → Removed x y c g b
     pub sent_to_new : (limit : ℕ) (A : Session) (c : Call) (h : ℕ) (k : Key) (y : Lent) (a : Answer) → Binds x y c a h k → Holdable s.shape.bytes s.shape.messages A
-        → suits (spoken x) A.stamp ≡ true → hold_length s.shape.bytes s.shape.messages A.stamp ≤ room_all x.row x.holds → h < 2 ^ 32 → x.counters.epoch.0 ≤ top → length (whole_batches limit A) ≤ top
+        → suits (spoken x) A.stamp ≡ true → hold_length s.shape.bytes s.shape.messages A.stamp ≤ room_all x.row x.holds.bytes → h < 2 ^ 32 → x.counters.epoch.0 ≤ top → length (whole_batches limit A) ≤ top
         → SentToNew limit A (or_new (session_at (stands_for s x).places (place_of k (stands_for s x).places))) k h (place_of k (stands_for s x).places) y

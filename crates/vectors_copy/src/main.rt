@@ -108,6 +108,7 @@ fn hand(
     words: &mut [u64],
     bytes: &mut [u8],
     holds: &mut [u8],
+    ends: &mut [u64],
     way: Way,
     a: Option<u64>,
 ) -> io::Result<Way> {
@@ -118,7 +119,16 @@ fn hand(
     };
     let mut replica = way.replica;
     let mut row = way.row;
-    let answer = replica::on_frame(&mut replica, &mut row, words, bytes, holds, frame, settings);
+    let answer = replica::on_frame(
+        &mut replica,
+        &mut row,
+        words,
+        bytes,
+        holds,
+        ends,
+        frame,
+        settings,
+    );
     print_answer(rt, answer, hash(words, bytes, way.shape), a, way.before)?;
     Ok(Way {
         replica,
@@ -134,12 +144,13 @@ fn hand_digits(
     words: &mut [u64],
     bytes: &mut [u8],
     holds: &mut [u8],
+    ends: &mut [u64],
     way: Way,
     a: Option<u64>,
 ) -> io::Result<Way> {
     let mut room = [0u8; 8192];
     match base_hex::read_line(digits, &mut room) {
-        Some(len) => hand(rt, &room[..len], words, bytes, holds, way, a),
+        Some(len) => hand(rt, &room[..len], words, bytes, holds, ends, way, a),
         None => Ok(way),
     }
 }
@@ -153,6 +164,7 @@ fn hand_with(
     words: &mut [u64],
     bytes: &mut [u8],
     holds: &mut [u8],
+    ends: &mut [u64],
     way: Way,
     a: Option<u64>,
 ) -> io::Result<Way> {
@@ -163,7 +175,7 @@ fn hand_with(
     if let Some(byte) = frame.get_mut(at) {
         *byte = byte.wrapping_add(n);
     }
-    let next = hand(rt, frame, words, bytes, holds, way, a)?;
+    let next = hand(rt, frame, words, bytes, holds, ends, way, a)?;
     if let (Some(byte), Some(good)) = (frame.get_mut(at), good) {
         *byte = good;
     }
@@ -242,6 +254,7 @@ fn command(
     words_b: &mut [u64],
     bytes_b: &mut [u8],
     holds: &mut [u8],
+    ends: &mut [u64],
     out: &mut [u8],
     way: Way,
 ) -> io::Result<Way> {
@@ -255,13 +268,13 @@ fn command(
             begin(rt, line, words_a, bytes_a, way, before)
         }
         Some(b'f') => take(rt, words_a, bytes_a, out, way),
-        Some(b'h') => hand_digits(rt, rest, words_b, bytes_b, holds, way, a),
-        Some(b'=') => hand_with(rt, 0, 0, out, words_b, bytes_b, holds, way, a),
+        Some(b'h') => hand_digits(rt, rest, words_b, bytes_b, holds, ends, way, a),
+        Some(b'=') => hand_with(rt, 0, 0, out, words_b, bytes_b, holds, ends, way, a),
         Some(b'x') => {
             let mut numbers = words(rest);
             let at = number(&mut numbers) as usize;
             let n = byte(&mut numbers);
-            hand_with(rt, at, n, out, words_b, bytes_b, holds, way, a)
+            hand_with(rt, at, n, out, words_b, bytes_b, holds, ends, way, a)
         }
         Some(b'o') => {
             vectors_fill::open(words_a, bytes_a, shape, rest);
@@ -283,12 +296,13 @@ fn run(
     words_b: &mut [u64; 162],
     bytes_b: &mut [u8; 1_050_000],
     holds: &mut [u8; 4_200_000],
+    ends: &mut [u64; 64],
     out: &mut [u8; 1_050_000],
 ) -> io::Result<()> {
     let mut way = Way::new(vectors_fill::NO_SHAPE);
     for line in script.split_inclusive(|b| *b == b'\n') {
         way = command(
-            rt, line, words_a, bytes_a, words_b, bytes_b, holds, out, way,
+            rt, line, words_a, bytes_a, words_b, bytes_b, holds, ends, out, way,
         )?;
     }
     Ok(())
@@ -302,6 +316,7 @@ fn main(rt: HostRuntime) -> io::Result<()> {
     let mut words_b = [0u64; 162];
     let mut bytes_b = [0u8; 1_050_000];
     let mut holds = [0u8; 4_200_000];
+    let mut ends = [0u64; 64];
     let mut out = [0u8; 1_050_000];
     run(
         &rt,
@@ -311,6 +326,7 @@ fn main(rt: HostRuntime) -> io::Result<()> {
         &mut words_b,
         &mut bytes_b,
         &mut holds,
+        &mut ends,
         &mut out,
     )
 }

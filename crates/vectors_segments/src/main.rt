@@ -64,9 +64,17 @@ fn tell_segment(told: Told, segment: &Segment) -> Told {
     told
 }
 
+// Where the words of the row's place begin and end: they are divided evenly among the places.
+fn own_words(len: usize, state: State) -> (usize, usize) {
+    let share = len.checked_div(state.places).unwrap_or(0);
+    let start = state.place.saturating_mul(share).min(len);
+    (start, start.saturating_add(share).min(len))
+}
+
 // What is held.
 fn tell(rt: &impl Print, bytes: &[u8], ends: &[u64], state: State) -> io::Result<()> {
-    let own = standby_segments::ends_at(ends, state.places, state.place);
+    let (start, end) = own_words(ends.len(), state);
+    let own = ends.get(start..end).unwrap_or(&[]);
     let bytes = bytes.get(..state.held).unwrap_or(&[]);
     let held = HeldChanges::new(Protocol::latest(), bytes, own);
     let open = held.open_segment();
@@ -129,7 +137,10 @@ fn put_records(area: &mut [u8], at: usize, count: u64, len: usize) -> usize {
 
 // A Whole: its changes behind those held, where there is room.
 fn hold(bytes: &mut [u8], ends: &mut [u64], state: State, run: &[u8]) -> State {
-    let own = standby_segments::ends_at(ends, state.places, state.place);
+    let (first, last) = own_words(ends.len(), state);
+    let Some(own) = ends.get_mut(first..last) else {
+        return state;
+    };
     let held = bytes.get(..state.held).unwrap_or(&[]);
     let used = standby_segments::held_length(Protocol::latest(), held, own);
     let end = used.saturating_add(run.len());
@@ -137,7 +148,7 @@ fn hold(bytes: &mut [u8], ends: &mut [u64], state: State, run: &[u8]) -> State {
         return state;
     };
     room.copy_from_slice(run);
-    standby_segments::close_at(ends, state.places, state.place, state.held, end);
+    standby_segments::close(own, state.held, end);
     State { held: end, ..state }
 }
 

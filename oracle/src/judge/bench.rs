@@ -115,7 +115,7 @@ impl Pair {
     }
 
     fn bound(setting: &Setting, handle: impl Fn(u64) -> u32) -> Self {
-        let us = Ours::make(setting).expect("made");
+        let us = Ours::lending(setting, setting.named_ends()).expect("made");
         let rust = Rust::make(setting).expect("made");
         let handles: Vec<u32> = (0..setting.sessions).map(handle).collect();
         let binds: Vec<_> =
@@ -249,48 +249,59 @@ fn rebinding(name: &str, handles: [u32; 2]) -> Row {
     timed(name, 100_000, || by_us(&mut us, next(&mut given)), || by_rust(&mut rust, next(&mut taken), &mut out))
 }
 
-/// A full session of messages of these lengths in turn, sent whole on a line and taken by a standby: both, the sending, the
-/// taking; and how many bytes and frames went.
-fn sending(line: Line, lengths: std::ops::RangeInclusive<usize>) -> ([Row; 3], usize, usize) {
-    const MESSAGES: u64 = 65_536;
-    let setting = setting(1, 33_554_432, MESSAGES, 0);
+/// What a session sent whole took: the sending with the taking, the sending, the taking, and the taking by a standby that is lent no
+/// words; how many bytes and frames went.
+struct Sent {
+    rows: [Row; 4],
+    bytes: usize,
+    frames: usize,
+}
+
+/// The time that frames take, each of which has just come into the area, as from a socket.
+fn taking(frames: &[Vec<u8>], area: &mut [u8], mut take: impl FnMut(&[u8])) -> f64 {
+    let mut sum = 0.0;
+    for frame in frames {
+        let area = &mut area[..frame.len()];
+        area.copy_from_slice(frame);
+        sum += nanoseconds(1, &mut || take(area));
+    }
+    sum
+}
+
+/// A session of so many messages of these lengths in turn, sent whole on a line and taken by standbys.
+fn sending(line: Line, lengths: std::ops::RangeInclusive<usize>, messages: u64) -> Sent {
+    let setting = setting(1, 33_554_432, 65_536, 0);
     let mut pair = Pair::new(&setting);
     let mut commits: Vec<Commit> = lengths.clone().map(Commit::new).collect();
     let turns = commits.len() as u64;
     // By steps of 37, so that lengths that follow each other differ.
-    (1..=MESSAGES).for_each(|number| pair.both(commits[(number * 37 % turns) as usize].of(0, number)));
+    (1..=messages).for_each(|number| pair.both(commits[(number * 37 % turns) as usize].of(0, number)));
     let Pair { mut us, rust: mut theirs, .. } = pair;
     let of =
         if turns == 1 { format!("{}", lengths.start()) } else { format!("{} to {}", lengths.start(), lengths.end()) };
     let Pair { us: mut our_standby, rust: mut their_standby, mut out, .. } = Pair::new(&setting);
+    let mut wordless = Ours::lending(&setting, 0).expect("made");
     let [begin, sender, target, _] = key(0).map(|text| String::from_utf8(text).expect("ASCII"));
     let id = SessionId::from_key(begin, sender, target, "").expect("a key");
     let bind = wire::bind(0, 0, 0, &key(0));
     let (mut area, mut frame) = (vec![0; 2 << 20], Vec::new());
     let on = if line == Line::Branch { ", on the branch line" } else { "" };
-    let row = |what| Row { name: format!("{MESSAGES} messages of {of}{on}{what}"), ours: f64::MAX, rust: f64::MAX };
-    let [mut both, mut sent, mut taken] =
-        ["sent whole into a standby", "the sending alone", "the taking alone"].map(|what| row(format!(": {what}")));
+    let row = |what| Row { name: format!("{messages} messages of {of}{on}{what}"), ours: f64::MAX, rust: f64::MAX };
+    let names = ["sent whole into a standby", "the sending alone", "the taking alone", "the taking alone, no words lent"];
+    let [mut both, mut sent, mut taken, mut without] = names.map(|what| row(format!(": {what}")));
     let (mut bytes, mut frames) = (0, 0);
-    for _ in 0..ROUNDS {
-        by_us(&mut our_standby, &bind);
-        by_rust(&mut their_standby, &bind, &mut out);
-        let (mut sending, mut takes, mut sends) = ([0; SENDING], 0.0, 0.0);
+    for round in 0..ROUNDS {
+        let (mut sending, mut sends, mut made) = ([0; SENDING], 0.0, Vec::new());
         sending[SENDING - 1] = line_word(line);
-        (bytes, frames) = (0, 0);
         loop {
             let mut len = None;
             sends += nanoseconds(1, &mut || len = us.next_frame(&mut sending, &mut area));
             let Some(len) = len else { break };
-            takes += nanoseconds(1, &mut || by_us(&mut our_standby, &area[..len]));
-            bytes += len;
-            frames += 1;
+            made.push(area[..len].to_vec());
         }
-        least(&mut sent.ours, sends);
-        least(&mut taken.ours, takes);
-        least(&mut both.ours, sends + takes);
-        let (mut batches, mut takes) = (Vec::new(), 0.0);
-        let mut sends = nanoseconds(1, &mut || {
+        (bytes, frames) = (made.iter().map(Vec::len).sum(), made.len());
+        let (mut batches, mut their_sends) = (Vec::new(), 0.0);
+        their_sends += nanoseconds(1, &mut || {
             let mut log = theirs.replica.storage().open(&id).expect("stored");
             batches = match line {
                 Line::HeadOffice => active::reach::whole(log.as_mut(), 0, 0, 0),
@@ -298,21 +309,35 @@ fn sending(line: Line, lengths: std::ops::RangeInclusive<usize>) -> ([Row; 3], u
             };
         });
         assert_eq!(batches.len(), frames, "both send as many frames");
-        for batch in batches {
+        for (batch, ours) in batches.into_iter().zip(&made) {
             let batch = Frame::Batch(batch);
-            sends += nanoseconds(1, &mut || {
+            their_sends += nanoseconds(1, &mut || {
                 frame.clear();
                 batch.encode(&mut frame);
             });
-            takes += nanoseconds(1, &mut || by_rust(&mut their_standby, &frame, &mut out));
+            assert_eq!(*ours, frame, "both send the same");
         }
-        least(&mut sent.rust, sends);
-        least(&mut taken.rust, takes);
-        least(&mut both.rust, sends + takes);
+        by_us(&mut our_standby, &bind);
+        let takes = taking(&made, &mut area, |frame| by_us(&mut our_standby, frame));
+        by_rust(&mut their_standby, &bind, &mut out);
+        let their_takes = taking(&made, &mut area, |frame| by_rust(&mut their_standby, frame, &mut out));
+        // On the branch line it takes long without words.
+        if line == Line::HeadOffice || round == 0 {
+            by_us(&mut wordless, &bind);
+            least(&mut without.ours, taking(&made, &mut area, |frame| by_us(&mut wordless, frame)));
+            least(&mut without.rust, their_takes);
+        }
+        for (row, ours, rust) in [(&mut sent, sends, their_sends), (&mut taken, takes, their_takes)] {
+            least(&mut row.ours, ours);
+            least(&mut row.rust, rust);
+        }
+        least(&mut both.ours, sends + takes);
+        least(&mut both.rust, their_sends + their_takes);
     }
     assert_eq!(our_standby.state().sessions, their_standby.state().sessions, "both have the session");
     assert_eq!(us.state().sessions, theirs.state().sessions, "both sent the same");
-    ([both, sent, taken], bytes, frames)
+    assert_eq!(our_standby.state().sessions, wordless.state().sessions, "without words too");
+    Sent { rows: [both, sent, taken, without], bytes, frames }
 }
 
 fn least(least: &mut f64, value: f64) {
@@ -393,11 +418,11 @@ fn calls() {
 pub fn sendings() {
     reading(FIRST).expect("a version");
     let head_office = [300..=300, 512..=512, 200..=399].map(|lengths| (Line::HeadOffice, lengths));
-    let branch = [300..=300, 200..=399].map(|lengths| (Line::Branch, lengths));
+    let branch = [300..=300, 512..=512, 200..=399].map(|lengths| (Line::Branch, lengths));
     for (line, lengths) in head_office.into_iter().chain(branch) {
-        let (rows, sent, frames) = sending(line, lengths);
+        let Sent { rows, bytes: sent, frames } = sending(line, lengths.clone(), 65_536);
         rows.iter().for_each(print);
-        let [both, alone, _] = &rows;
+        let [both, alone, taken, _] = &rows;
         let (name, frames) = (format!("the sending alone, a frame of {frames}"), frames as f64);
         print(&Row { name, ours: alone.ours / frames, rust: alone.rust / frames });
         let copy = copying(sent);
@@ -405,5 +430,8 @@ pub fn sendings() {
         println!(
             "| one memcpy of its {sent} bytes: ours is {ours:.1} of them, the Rust's {rust:.1} | {copy:.1} | {copy:.1} | |"
         );
+        let [_, _, half, _] = sending(line, lengths, 32_768).rows;
+        let (ours, rust) = (taken.ours / half.ours, taken.rust / half.rust);
+        println!("| the taking alone of 65,536 beside 32,768, times as long | {ours:.2} | {rust:.2} | |");
     }
 }

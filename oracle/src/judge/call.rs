@@ -62,6 +62,9 @@ pub enum Counter {
     Commit(u32, u64),
     Bytes(u32, u64),
     Version(u16),
+    /// What a handle holds: the bytes at the start of its hold area, as many as its held length says, and the words of its place, the rest of
+    /// which are all ones.
+    Held(u32, Vec<u8>, Vec<u64>),
 }
 
 fn number(word: &str) -> Option<u64> {
@@ -82,6 +85,19 @@ fn range(word: &str) -> Option<Range> {
     Some((number(first)?, number(last)?))
 }
 
+fn or_dash(text: String) -> String {
+    if text.is_empty() { "-".into() } else { text }
+}
+
+fn or_empty(word: &str) -> &str {
+    if word == "-" { "" } else { word }
+}
+
+fn held(handle: u32, bytes: &str, words: &str) -> Option<Counter> {
+    let words = or_empty(words).split(',').filter(|word| !word.is_empty());
+    Some(Counter::Held(handle, digits::read(or_empty(bytes).as_bytes())?, words.map(number).collect::<Option<_>>()?))
+}
+
 pub fn key_text(key: &Key) -> String {
     key.iter().map(|part| digits::write(part)).collect::<Vec<_>>().join(",")
 }
@@ -97,6 +113,29 @@ impl Setting {
         let [incarnation, lag, bytes, messages, sessions, handles] = first;
         let hold = hold.unwrap_or_else(|| hold_for_any(bytes, messages));
         Some(Self { incarnation, lag, bytes, messages, sessions, handles, hold })
+    }
+}
+
+impl Setting {
+    /// As many words as docs/AREAS.md names: one for each 65,536 bytes of each hold area.
+    pub fn named_ends(&self) -> u64 {
+        self.handles.saturating_mul(self.hold / 65_536)
+    }
+
+    /// How many words are lent beside the hold areas, which no script says: none, fewer than there are places, one or three for each and one
+    /// more, as many as docs/AREAS.md names, or some more than that.
+    pub fn ends(&self) -> u64 {
+        let Self { incarnation, lag, bytes, messages, sessions, handles, hold } = *self;
+        let named = self.named_ends();
+        let sum = [incarnation, lag, bytes, messages, sessions, handles, hold].into_iter().fold(0, u64::wrapping_add);
+        match sum % 6 {
+            0 => 0,
+            1 => handles.saturating_sub(1),
+            2 => handles,
+            3 => 3 * handles + 1,
+            4 => named,
+            _ => named + handles + handles / 2,
+        }
     }
 }
 
@@ -143,6 +182,7 @@ impl Call {
             ["X", "version", n @ ("1" | "2")] => Self::Set(Counter::Version(n.parse().ok()?)),
             ["X", "commit", h, n] => Self::Set(Counter::Commit(handle(h)?, number(n)?)),
             ["X", "bytes", h, n] => Self::Set(Counter::Bytes(handle(h)?, number(n)?)),
+            ["X", "held", h, bytes, words] => Self::Set(held(handle(h)?, bytes, words)?),
             _ => return None,
         })
     }
@@ -185,6 +225,10 @@ impl fmt::Display for Call {
             Self::Set(Counter::Version(n)) => write!(f, "X version {n}"),
             Self::Set(Counter::Commit(handle, n)) => write!(f, "X commit {handle} {n}"),
             Self::Set(Counter::Bytes(handle, n)) => write!(f, "X bytes {handle} {n}"),
+            Self::Set(Counter::Held(handle, bytes, words)) => {
+                let numbers: Vec<String> = words.iter().map(u64::to_string).collect();
+                write!(f, "X held {handle} {} {}", or_dash(digits::write(bytes)), or_dash(numbers.join(",")))
+            }
         }
     }
 }

@@ -14,6 +14,7 @@ use crate::frames::{Reading, read_by_rust};
 use crate::generate::{
     Player, Random, any_frame, branch_setting, cycle, key, many_setting, reading, resend, setting, wide_setting,
 };
+use crate::holding::{self, Holding};
 use crate::imports;
 #[cfg(calls)]
 use crate::ours::Ours;
@@ -170,6 +171,21 @@ impl Round {
         Ok(())
     }
 
+    /// A script over hold areas of any content.
+    fn holding(&mut self, random: &mut Random) -> Result<(), Difference> {
+        let setting = holding::setting(random);
+        let mut player = Holding::new(Random(random.next()), &setting);
+        let mut rust = Rust::make(&setting).expect("within the limits");
+        let mut run = Run::new(&setting)?;
+        for _ in 0..40 {
+            let call = player.call(&rust);
+            self.call(&mut run, &mut rust, &call)?;
+        }
+        run.call(&mut rust, &Call::State)?;
+        self.scripts += 1;
+        Ok(())
+    }
+
     /// A row that breaks the rules, with the frame of the last call or any.
     fn broken_row(&mut self, run: &mut Run, random: &mut Random, call: &Call) -> Result<(), Difference> {
         let frame = match call {
@@ -208,6 +224,9 @@ impl Round {
         let version = rust.version;
         let answered = run.call(rust, call)?;
         self.counts.call(call, &answered);
+        if let Some(way) = run.wrote() {
+            self.counts.word(way);
+        }
         if !matches!(call, Call::Set(_)) {
             self.counts.version(version, rust.version);
         }
@@ -250,8 +269,8 @@ fn made_by_us(_: &Setting, _: bool) -> Result<(), Difference> {
     Ok(())
 }
 
-/// The days of a cycle, a hundred scripts, three with commits on many handles, five with several batches on the branch line and one
-/// over many sessions, which always have their time; then all inputs, in turn, until the time is over.
+/// The days of a cycle, a hundred scripts, three with commits on many handles, five with several batches on the branch line, one over
+/// many sessions and a hundred over hold areas of any content, which always have their time; then all inputs, in turn, until the time is over.
 fn inputs(round: &mut Round, seconds: u64, seed: u64) -> Result<(), Difference> {
     let mut random = Random(seed);
     round.days()?;
@@ -259,6 +278,7 @@ fn inputs(round: &mut Round, seconds: u64, seed: u64) -> Result<(), Difference> 
     (0..3).try_for_each(|_| round.script_of(&mut random, &many_setting()))?;
     (0..5).try_for_each(|_| round.script_of(&mut random, &branch_setting()))?;
     round.script_of(&mut random, &wide_setting())?;
+    (0..100).try_for_each(|_| round.holding(&mut random))?;
     let end = Instant::now() + Duration::from_secs(seconds);
     round.making()?;
     (0..=2).try_for_each(|len| round.bodies(len, end))?;
@@ -269,6 +289,7 @@ fn inputs(round: &mut Round, seconds: u64, seed: u64) -> Result<(), Difference> 
         (0..2000).try_for_each(|_| round.by_chance(&mut random))?;
         round.around(&any_frame(&mut random))?;
         (0..100).try_for_each(|_| round.script(&mut random))?;
+        (0..20).try_for_each(|_| round.holding(&mut random))?;
     }
     Ok(())
 }

@@ -144,6 +144,11 @@ impl Counts {
         self.add("commits that pend".into(), "64 pend".into());
     }
 
+    /// What a Whole did with the words of its place.
+    pub fn word(&mut self, way: &str) {
+        self.add("words of a Whole".into(), way.into());
+    }
+
     /// A row that breaks the rules, handed to each of the six calls.
     pub fn broken_row(&mut self) {
         self.add("a row that breaks its rules".into(), "R 25".into());
@@ -166,6 +171,8 @@ impl Counts {
         let all = names.split(' ').map(String::from).chain(taken).chain(nacks).chain(numbers).chain(versions);
         let long = ["take Bind", "whole sending"].into_iter().filter(|asked| !self.was(asked, "R 32"));
         let sent = sent.map(|answered| format!("{answered} ({BRANCH})"));
+        let words = ["a segment closed", "a word cleared", "no word left", "no word lent"].map(String::from);
+        let sent = sent.chain(words.into_iter().filter(|way| !given(way)));
         let sent = sent.chain(several.map(|asked| format!("several frames ({asked})")));
         all.filter(|name| !given(name)).chain(long.map(|asked| format!("R 32 ({asked})"))).chain(sent).collect()
     }

@@ -1,5 +1,5 @@
 //! Faults that are put in between our side and the comparison, one at a time, by the number in WIZHDULET_FAULT: the
-//! comparison must find each (oracle/judge-test). The stand-in has those from 1 to 64 in its own text.
+//! comparison must find each (oracle/judge-test). The stand-in has those from 1 to 73 in its own text.
 
 use std::sync::OnceLock;
 
@@ -198,6 +198,8 @@ impl Before {
         match answer.as_mut().map(|frame| (frame.get(4).copied().unwrap_or(0), frame)) {
             Ok((2, _)) if fault(111) => areas.row = self.row,
             Ok((5, _)) if fault(110) => flip(areas.holds.last_mut()),
+            Ok((5, _)) if fault(178) => flip_word(areas.ends.last_mut()),
+            Ok((5, _)) if fault(179) => flip_word(areas.ends.first_mut()),
             Ok((5, _)) if fault(112) => counters.epoch = self.epoch,
             Ok((5, frame)) => acknowledged(areas, size, frame),
             Ok((6, _)) if fault(108) => flip_word(areas.words.last_mut()),

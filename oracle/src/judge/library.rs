@@ -80,17 +80,19 @@ pub struct Areas {
     pub words: Vec<u64>,
     pub bytes: Vec<u8>,
     pub holds: Vec<u8>,
+    pub ends: Vec<u64>,
 }
 
 impl Areas {
     /// Areas for a store of this size, full of rubbish, and a free row.
-    pub fn new(size: Size, handles: usize, hold: usize) -> Self {
+    pub fn new(size: Size, handles: usize, hold: usize, ends: usize) -> Self {
         let (words, bytes) = size.start(size.sessions as usize);
         Self {
             row: vec![Place::default(); handles],
             words: vec![RUBBISH; words],
             bytes: vec![UNTOUCHED; bytes],
             holds: vec![UNTOUCHED; handles * hold],
+            ends: vec![RUBBISH; ends],
         }
     }
 
@@ -362,12 +364,24 @@ mod entry {
 
     entry! {
         fn make();
-        fn on_frame_held(holds: *mut u8, holds_len: usize, frame: *const u8, frame_len: usize);
-        fn on_frame(holds: *mut u8, holds_len: usize, frame: *const u8, frame_len: usize);
-        fn flush(holds: *mut u8, holds_len: usize, connection: u64);
-        fn disconnected_from(holds: *mut u8, holds_len: usize, connection: u64);
-        fn promote(holds: *mut u8, holds_len: usize);
-        fn promote_unchecked(holds: *mut u8, holds_len: usize);
+    }
+
+    /// Of these, calls, which are lent the hold areas and their words too.
+    macro_rules! calls {
+        ($(fn $name:ident($($more:ident: $ty:ty),*);)*) => {
+            entry! {
+                $(fn $name(holds: *mut u8, holds_len: usize, ends: *mut u64, ends_len: usize $(, $more: $ty)*);)*
+            }
+        };
+    }
+
+    calls! {
+        fn on_frame_held(frame: *const u8, frame_len: usize);
+        fn on_frame(frame: *const u8, frame_len: usize);
+        fn flush(connection: u64);
+        fn disconnected_from(connection: u64);
+        fn promote();
+        fn promote_unchecked();
     }
 
     unsafe extern "C" {
@@ -378,12 +392,20 @@ mod entry {
         fn store_fnv(hash: u64, bytes: *const u8, bytes_len: usize) -> u64;
     }
 
-    macro_rules! ask {
+    macro_rules! made {
         ($name:ident, $counters:expr, $areas:expr, $settings:expr $(, $more:expr)*) => {{
             let Areas { row, words, bytes, .. } = $areas;
             let (row, row_len, words, words_len) = (row.as_mut_ptr(), row.len(), words.as_mut_ptr(), words.len());
             let (bytes, bytes_len) = (bytes.as_mut_ptr(), bytes.len());
             unsafe { $name($counters, row, row_len, words, words_len, bytes, bytes_len, $($more,)* $settings) }
+        }};
+    }
+
+    macro_rules! ask {
+        ($name:ident, $counters:expr, $areas:expr, $settings:expr $(, $more:expr)*) => {{
+            let (holds, holds_len) = ($areas.holds.as_mut_ptr(), $areas.holds.len());
+            let (ends, ends_len) = ($areas.ends.as_mut_ptr(), $areas.ends.len());
+            made!($name, $counters, $areas, $settings, holds, holds_len, ends, ends_len $(, $more)*)
         }};
     }
 
@@ -394,18 +416,17 @@ mod entry {
         if refused != 0 {
             return u64::from(refused) << 40;
         }
-        answer(&ask!(make, counters, &mut *areas, settings), &areas.bytes, &mut [], counters.version())
+        answer(&made!(make, counters, &mut *areas, settings), &areas.bytes, &mut [], counters.version())
     }
 
     pub fn said(counters: &mut Counters, areas: &mut Areas, settings: Settings, ask: Ask) -> Said {
-        let (holds, holds_len) = (areas.holds.as_mut_ptr(), areas.holds.len());
         match ask {
-            Ask::Held(f) => ask!(on_frame_held, counters, areas, settings, holds, holds_len, f.as_ptr(), f.len()),
-            Ask::Frame(f) => ask!(on_frame, counters, areas, settings, holds, holds_len, f.as_ptr(), f.len()),
-            Ask::Flush(connection) => ask!(flush, counters, areas, settings, holds, holds_len, connection),
-            Ask::Drop(connection) => ask!(disconnected_from, counters, areas, settings, holds, holds_len, connection),
-            Ask::Promote => ask!(promote, counters, areas, settings, holds, holds_len),
-            Ask::Unchecked => ask!(promote_unchecked, counters, areas, settings, holds, holds_len),
+            Ask::Held(f) => ask!(on_frame_held, counters, areas, settings, f.as_ptr(), f.len()),
+            Ask::Frame(f) => ask!(on_frame, counters, areas, settings, f.as_ptr(), f.len()),
+            Ask::Flush(connection) => ask!(flush, counters, areas, settings, connection),
+            Ask::Drop(connection) => ask!(disconnected_from, counters, areas, settings, connection),
+            Ask::Promote => ask!(promote, counters, areas, settings),
+            Ask::Unchecked => ask!(promote_unchecked, counters, areas, settings),
         }
     }
 

@@ -13,6 +13,8 @@ mod faults;
 mod fix;
 mod frames;
 mod generate;
+mod held;
+mod holding;
 mod imports;
 #[cfg(ours)]
 mod library;
@@ -20,6 +22,8 @@ mod library;
 mod ours;
 #[cfg(ours)]
 mod out;
+#[path = "../pieces.rs"]
+mod pieces;
 #[cfg(plain)]
 #[path = "../plain/mod.rs"]
 mod plain;
@@ -31,6 +35,9 @@ mod selftest;
 #[cfg(calls)]
 mod shadow;
 mod side;
+#[path = "../splitmix.rs"]
+#[allow(dead_code)]
+mod splitmix;
 #[cfg(ours)]
 mod walk;
 mod wire;

@@ -6,6 +6,7 @@ use crate::differences::{FIRST, LATEST, NO_VERSIONS};
 use crate::differences;
 use crate::faults::{self, fault};
 use crate::frames::Reading;
+use crate::held;
 #[cfg(calls)]
 use crate::library::Said;
 use crate::library::{self, Areas, Ask, Counters, DONE, Imported, NO_LINES, Place, RUBBISH, SENDING, Settings, Size, line_word, outcome};
@@ -162,6 +163,27 @@ impl Ours {
 
     pub fn areas(&self) -> &Areas {
         &self.areas
+    }
+
+    /// Puts other words behind those of each place that count: any that mean the same.
+    pub fn foreign_words(&mut self, turn: u64) {
+        let places = self.areas.row.len();
+        for index in 0..places {
+            let Place { used, held_len, .. } = self.areas.row[index];
+            let held_len = if used == 0 { 0 } else { held_len };
+            let words = held::own(&mut self.areas.ends, places, index);
+            let (count, last) = held::closed(words, held_len as usize);
+            // The first of these must not count.
+            let none = [0, last, last.saturating_sub(1), held_len + 1, u64::MAX];
+            let mut turn = turn.wrapping_add(index as u64);
+            for (at, word) in words[count..].iter_mut().enumerate() {
+                *word = none[turn as usize % none.len()];
+                if at > 0 && turn % 3 == 0 {
+                    *word = last + at as u64;
+                }
+                turn = turn.wrapping_mul(7).wrapping_add(3);
+            }
+        }
     }
 
     pub fn size(&self) -> Size {
@@ -425,17 +447,33 @@ impl Ours {
     #[cfg(plain)]
     fn looked_up(&mut self, _: u64, _: &[u64]) {}
 
-    fn hold_of(&self, index: usize) -> &[u8] {
+    /// The changes that a place's hold area holds, each in frame form.
+    fn hold_of(&mut self, index: usize) -> Vec<Vec<u8>> {
+        let Areas { row, holds, ends, .. } = &mut self.areas;
         let start = index * self.hold as usize;
-        &self.areas.holds[start..start + self.areas.row[index].held_len as usize]
+        held::changes(&holds[start..start + row[index].held_len as usize], held::own(ends, row.len(), index))
     }
 
     fn handle(&mut self, index: usize) -> Handle {
         let Place { handle, place, commit_no, held_bytes, .. } = self.areas.row[index];
         let key = self.told(place, 0).expect("a place in use").key;
-        let changes = self.hold_of(index).to_vec();
-        let held = walk::changes(&changes).count() as u64;
-        Handle { number: handle, key, commit_no, held, held_bytes, changes }
+        let changes = self.hold_of(index);
+        let held = changes.len() as u64;
+        Handle { number: handle, key, commit_no, held, held_bytes, changes: changes.concat() }
+    }
+
+    /// What a handle holds: false where it isn't bound, or its area is too short.
+    fn set_held(&mut self, handle: u32, bytes: &[u8], words: &[u64]) -> bool {
+        let (start, index) = match self.areas.index(handle) {
+            Some(index) if bytes.len() as u64 <= self.hold => (index * self.hold as usize, index),
+            _ => return false,
+        };
+        self.areas.holds[start..start + bytes.len()].copy_from_slice(bytes);
+        let places = self.areas.row.len();
+        held::set_words(held::own(&mut self.areas.ends, places, index), words);
+        self.areas.row[index].held_len = bytes.len() as u64;
+        self.areas.row[index].held_bytes = held::message_bytes(&self.hold_of(index));
+        true
     }
 
     fn bound(&mut self, handle: u32) -> Option<&mut Place> {
@@ -473,8 +511,9 @@ fn push(queue: &mut [u64], max_lag: u64, last: u64) -> Result<Pushed, u32> {
     Ok(Pushed { went: went.to_vec(), drained_through: queue[0], waiting: queue[1] as usize })
 }
 
-impl Side for Ours {
-    fn make(setting: &Setting) -> Option<Self> {
+impl Ours {
+    /// Made with so many words lent beside the hold areas.
+    pub fn lending(setting: &Setting, ends: u64) -> Option<Self> {
         let fits = |n: u64| u32::try_from(n).unwrap_or(u32::MAX);
         let size =
             Size { sessions: fits(setting.sessions), bytes: fits(setting.bytes), messages: fits(setting.messages) };
@@ -483,7 +522,7 @@ impl Side for Ours {
         let lent = if small { size } else { Size { sessions: 0, bytes: 0, messages: 0 } };
         let mut ours = Self {
             counters: Counters::default(),
-            areas: Areas::new(lent, setting.handles as usize, setting.hold as usize),
+            areas: Areas::new(lent, setting.handles as usize, setting.hold as usize, ends as usize),
             settings: Settings { size, incarnation: setting.incarnation, max_lag: setting.lag },
             hold: setting.hold,
             #[cfg(calls)]
@@ -492,6 +531,12 @@ impl Side for Ours {
             sent: Out::default(),
         };
         ours.made().then_some(ours)
+    }
+}
+
+impl Side for Ours {
+    fn make(setting: &Setting) -> Option<Self> {
+        Self::lending(setting, setting.ends())
     }
 
     /// Version 2 is lent as one value after the other.
@@ -585,9 +630,14 @@ impl Side for Ours {
             Counter::Version(n) => self.counters.version2 = u8::from(n == LATEST),
             Counter::Commit(handle, n) => return self.bound(handle).map(|place| place.commit_no = n).is_some(),
             Counter::Bytes(handle, n) => {
-                let holding = self.bound(handle).filter(|place| place.held_len > 0);
-                return holding.map(|place| place.held_bytes = n).is_some();
+                let Some(index) = self.areas.index(handle) else { return false };
+                let holding = !self.hold_of(index).is_empty();
+                if holding {
+                    self.areas.row[index].held_bytes = n;
+                }
+                return holding;
             }
+            Counter::Held(handle, ref bytes, ref words) => return self.set_held(handle, bytes, words),
         }
         true
     }

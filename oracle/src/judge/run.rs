@@ -42,6 +42,8 @@ pub fn looked<T>(ask: impl FnOnce() -> T) -> Result<T, String> {
 struct Watched {
     us: Ours,
     shadow: Shadow,
+    /// How many calls there were.
+    turn: u64,
 }
 
 /// What isn't alike, or what isn't as it must be in our areas.
@@ -65,7 +67,7 @@ impl Watched {
         let us = Ours::make(setting).expect("the Rust's side was made");
         let mut shadow = Shadow::new(setting, us.size());
         shadow.look(us.areas(), &Call::State, "", None).map_err(Unlike::areas)?;
-        Ok(Self { us, shadow })
+        Ok(Self { us, shadow, turn: 0 })
     }
 
     /// Asks the Rust, and our side the same: the Rust's answer, or what isn't alike.
@@ -74,6 +76,9 @@ impl Watched {
             Call::Held(bytes) | Call::Frame(bytes) => rust.will_hold(bytes),
             _ => None,
         };
+        self.us.foreign_words(self.turn);
+        self.shadow.lend(self.us.areas());
+        self.turn += 1;
         let answered = answer(rust, call);
         let us = looked(|| answer(&mut self.us, call)).unwrap_or_else(|words| words);
         if us != answered {
@@ -109,6 +114,11 @@ impl Run {
     pub fn call(&mut self, rust: &mut Rust, call: &Call) -> Result<String, Difference> {
         self.calls.push(call.clone());
         self.us.call(rust, call).map_err(|unlike| difference(&self.setting, &self.calls, &unlike))
+    }
+
+    /// What the last call did with the words of its handle's hold area.
+    pub fn wrote(&mut self) -> Option<&'static str> {
+        self.us.shadow.wrote.take()
     }
 
     /// A row that breaks the rules, handed to each of the six calls of our side with this frame: whether one can be made.
@@ -201,6 +211,10 @@ impl Run {
 impl Run {
     pub fn broken_row(&mut self, _: &mut Random, _: &[u8]) -> Result<bool, Difference> {
         Ok(false)
+    }
+
+    pub fn wrote(&mut self) -> Option<&'static str> {
+        None
     }
 }
 

@@ -8,6 +8,8 @@ use turbojet::store::{Limits, MemoryStorage, SessionStorage, Stored, StoredSessi
 use turbojet_replica::active::reach::{self as head_office, Lag};
 use turbojet_replica::branch::reach as branch;
 use turbojet_replica::frame::reach::form;
+#[cfg(calls)]
+use turbojet_replica::frame::Part;
 use turbojet_replica::frame::{Frame, FrameError};
 use turbojet_replica::standby::Replica;
 use turbojet_replica::standby::reach::{self, summary};
@@ -15,6 +17,7 @@ use turbojet_replica::standby::reach::{self, summary};
 use crate::call::{Counter, Key, LINES, Line, Setting};
 use crate::differences::{self, Taken};
 use crate::fix;
+use crate::held;
 use crate::ranges::{self, Listed, Range};
 use crate::side::{Answer, Handle, Pushed, Sent, Session, Side, State, Summary};
 use crate::wire;
@@ -25,12 +28,23 @@ pub struct Rust {
     pub sessions: u64,
     pub handles: u64,
     pub hold: u64,
+    /// How many words are lent beside the hold areas.
+    ends: u64,
     /// The connection's version, which the Rust doesn't have (document 02, U7).
     pub version: u16,
     /// What the last frame took from another handle, for the counts.
     pub taken: Option<Taken>,
     /// C and M.
     limits: (u64, u64),
+}
+
+/// What a Whole or LastWhole puts into its handle's hold area behind what is held there, in frame form.
+#[cfg(calls)]
+pub struct Holding {
+    pub handle: u32,
+    pub before: Vec<u8>,
+    pub form: Vec<u8>,
+    pub is_last: bool,
 }
 
 /// Document 01's number for a frame that can't be read.
@@ -116,18 +130,35 @@ impl Rust {
         self.replica.storage().open(&id).ok()
     }
 
-    /// Where a frame would put its changes into a hold area: its handle, the length held before,
-    /// and the changes in frame form.
+    /// What a frame would put into a hold area, and what is held there before.
     #[cfg(calls)]
-    pub fn will_hold(&self, bytes: &[u8]) -> Option<(u32, u64, Vec<u8>)> {
+    pub fn will_hold(&self, bytes: &[u8]) -> Option<Holding> {
         match self.decode(bytes) {
             Ok(Some((Frame::Batch(batch), used))) if used == bytes.len() && !self.replica.promoted() => {
-                let (start, form) = (differences::held_len(self, batch.handle), form(&batch.ops));
-                let held = differences::would_hold(self, &batch) && start + form.len() as u64 <= self.hold;
-                held.then_some((batch.handle, start, form))
+                let (handle, is_last) = (batch.handle, batch.part == Part::LastWhole);
+                let before = self.replica.handle(handle).map_or_else(Vec::new, |handle| form(handle.held));
+                let form = form(&batch.ops);
+                let held = differences::would_hold(self, &batch) && (before.len() + form.len()) as u64 <= self.hold;
+                held.then_some(Holding { handle, before, form, is_last })
             }
             _ => None,
         }
+    }
+
+    /// What a handle holds, by the second reading of the hold area and its words: false where it isn't bound, or its area is too short.
+    fn set_held(&mut self, handle: u32, bytes: &[u8], words: &[u64]) -> bool {
+        if self.replica.handle(handle).is_none() || bytes.len() as u64 > self.hold {
+            return false;
+        }
+        let mut own = vec![0; self.ends.checked_div(self.handles).unwrap_or(0) as usize];
+        held::set_words(&mut own, words);
+        let changes = held::changes(bytes, &own);
+        let sum = held::message_bytes(&changes);
+        let batch = wire::Batch { handle, epoch: 0, commit_no: 1, part: wire::COMMIT, changes, records: Vec::new() };
+        differences::reading(differences::LATEST).expect("a version");
+        let Ok(Some((Frame::Batch(batch), _))) = Frame::decode(&wire::batch(&batch)) else { panic!("a good frame") };
+        self.replica.set_held(handle, batch.ops, sum);
+        true
     }
 
     /// Reads in the connection's version.
@@ -160,7 +191,7 @@ impl Side for Rust {
         differences::given_incarnation(&mut replica, setting.incarnation);
         let limits = (setting.bytes, setting.messages);
         let Setting { sessions, handles, hold, .. } = *setting;
-        Some(Self { replica, sessions, handles, hold, version: differences::FIRST, taken: None, limits })
+        Some(Self { replica, sessions, handles, hold, ends: setting.ends(), version: differences::FIRST, taken: None, limits })
     }
 
     fn frame(&mut self, bytes: &[u8], held: bool) -> Answer {
@@ -291,6 +322,7 @@ impl Side for Rust {
             Counter::Version(n) => self.version = n,
             Counter::Commit(handle, n) => return self.replica.set_commit_no(handle, n),
             Counter::Bytes(handle, n) => return self.replica.set_held_bytes(handle, n),
+            Counter::Held(handle, ref bytes, ref words) => return self.set_held(handle, bytes, words),
         }
         true
     }

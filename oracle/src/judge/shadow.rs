@@ -3,8 +3,9 @@
 
 use std::ops::Range;
 
-use crate::call::{Call, Setting};
+use crate::call::{Call, Counter, Setting};
 use crate::library::{Areas, Place, Size};
+use crate::rust::Holding;
 use crate::walk::{self, Change, Walk};
 use crate::wire;
 
@@ -28,15 +29,14 @@ const STAMP: usize = 128;
 const MARKS: usize = 160;
 const RING: usize = 224;
 
-/// What a call writes into a hold area: the handle, the length held before, and changes in frame form.
-pub type Held = (u32, u64, Vec<u8>);
-
 /// What a call may have written.
 #[derive(Default)]
 struct Free {
     words: Vec<Range<usize>>,
     bytes: Vec<Range<usize>>,
     row: Records,
+    /// The held length that a record must have.
+    held_len: Option<(usize, u64)>,
 }
 
 #[derive(Default)]
@@ -51,7 +51,14 @@ pub struct Shadow {
     areas: Areas,
     size: Size,
     hold: usize,
+    /// All changes of the last Whole or LastWhole, joined to those held.
+    joined: Vec<u8>,
+    /// What the last Whole did with the words of its place.
+    pub wrote: Option<&'static str>,
 }
+
+/// What a Whole may do with the words of its place.
+pub const WAYS: [&str; 4] = ["a segment closed", "a word cleared", "no word left", "no word lent"];
 
 /// What a run of changes writes besides numbers.
 #[derive(Default)]
@@ -123,16 +130,21 @@ impl Shadow {
     /// The areas after making: only the two counts are written.
     pub fn new(setting: &Setting, size: Size) -> Self {
         let hold = setting.hold as usize;
-        let mut areas = Areas::new(size, setting.handles as usize, hold);
+        let mut areas = Areas::new(size, setting.handles as usize, hold, setting.ends() as usize);
         areas.words[..2].fill(0);
-        Self { areas, size, hold }
+        Self { areas, size, hold, joined: Vec::new(), wrote: None }
     }
 
     /// Looks at the areas after a call that gave this answer; the first thing that isn't as it must be.
-    pub fn look(&mut self, areas: &Areas, call: &Call, answer: &str, held: Option<Held>) -> Result<(), String> {
+    pub fn look(&mut self, areas: &Areas, call: &Call, answer: &str, held: Option<Holding>) -> Result<(), String> {
         held.into_iter().for_each(|held| self.hold(held));
         let free = self.moved_on(areas, call, answer);
         self.compare(areas, free)
+    }
+
+    /// Takes over the words of the hold areas, which the driver has changed.
+    pub fn lend(&mut self, areas: &Areas) {
+        self.areas.ends.clone_from(&areas.ends);
     }
 
     /// Compares the areas with the copy, and takes over what may have been written.
@@ -148,6 +160,9 @@ impl Shadow {
         if let Some(at) = first_change(&areas.holds, &copy.holds, &mut []) {
             return wrong("byte of the hold areas", at);
         }
+        if let Some(at) = first_change(&areas.ends, &copy.ends, &mut []) {
+            return wrong("word of the hold areas", at);
+        }
         let mut row = match free.row {
             Records::One(at) => vec![at..at + 1],
             Records::StayOrAreFreed if areas.row.iter().all(|record| record.used == 0) => vec![0..areas.row.len()],
@@ -156,16 +171,45 @@ impl Shadow {
         if let Some(at) = first_change(&areas.row, &copy.row, &mut row) {
             return wrong("record", at);
         }
+        if let Some((at, len)) = free.held_len
+            && areas.row[at].held_len != len
+        {
+            return wrong("held length of record", at);
+        }
         take_over(&areas.words, &mut copy.words, free.words);
         take_over(&areas.bytes, &mut copy.bytes, free.bytes);
         copy.row.clone_from(&areas.row);
         Ok(())
     }
 
-    fn hold(&mut self, (handle, offset, form): Held) {
+    /// The changes stand behind those held. A Whole writes a word besides.
+    fn hold(&mut self, Holding { handle, mut before, form, is_last }: Holding) {
         let index = self.areas.index(handle).expect("a bound handle");
-        let start = index * self.hold + offset as usize;
+        let start = index * self.hold + before.len();
         self.areas.holds[start..start + form.len()].copy_from_slice(&form);
+        if !is_last {
+            self.close(index, (before.len() + form.len()) as u64);
+        }
+        before.extend(form);
+        self.joined = before;
+    }
+
+    /// Those words of a place count that are above all before them, the first above 0, and within the length held. The word behind them
+    /// becomes the new length if from the last of them on there are 65,536 bytes, else 0.
+    fn close(&mut self, index: usize, len: u64) {
+        let held = self.areas.row[index].held_len;
+        let share = self.areas.ends.len() / self.areas.row.len();
+        self.wrote = Some(WAYS[if share > 0 { 2 } else { 3 }]);
+        let mut from = 0;
+        for word in &mut self.areas.ends[index * share..][..share] {
+            if *word <= from || *word > held {
+                let closed = len >= from + 65_536;
+                *word = if closed { len } else { 0 };
+                self.wrote = Some(WAYS[usize::from(!closed)]);
+                return;
+            }
+            from = *word;
+        }
     }
 
     /// Moves the copy on by what a call surely wrote; what else it may have written.
@@ -191,8 +235,12 @@ impl Shadow {
             }
             Call::Promote | Call::Unchecked if answer == "ok" => self.promotion(),
             Call::Import { .. } if answer == "ok" => self.imported(),
-            Call::Set(_) => {
+            Call::Set(counter) => {
                 self.areas.row.clone_from(&areas.row);
+                if matches!(counter, Counter::Held(..)) {
+                    self.areas.holds.clone_from(&areas.holds);
+                    self.areas.ends.clone_from(&areas.ends);
+                }
                 Free::default()
             }
             _ => Free::default(),
@@ -213,7 +261,10 @@ impl Shadow {
             }
             (Some(WELCOME), _) => Records::StayOrAreFreed,
             // A wrong commit number and a LastWhole that doesn't fit let held changes go.
-            (Some(NACK), BATCH) if answer.ends_with("02") => record(self.areas.index(handle(frame))),
+            (Some(NACK), BATCH) if answer.ends_with("02") => {
+                let index = self.areas.index(handle(frame));
+                return Free { row: record(index), held_len: index.map(|at| (at, 0)), ..Free::default() };
+            }
             (None, BATCH) if answer == "R 17" => record(self.areas.index(handle(frame))),
             _ => Records::Stay,
         };
@@ -276,13 +327,11 @@ impl Shadow {
         let row = Records::One(index);
         let (part, form) = (frame[25], walk::form(frame));
         if part == wire::WHOLE {
-            return Free { row, ..Free::default() };
+            return Free { row, held_len: Some((index, self.joined.len() as u64)), ..Free::default() };
         }
-        let start = index * self.hold;
-        let held = self.areas.row[index].held_len as usize + form.len();
-        let run = if part == wire::COMMIT { form } else { &self.areas.holds[start..start + held] };
+        let run = if part == wire::COMMIT { form } else { &self.joined[..] };
         let place = self.areas.row[index].place;
-        let free = Free { row, ..self.applied(place as usize, &Written::by(run)) };
+        let free = Free { row, held_len: Some((index, 0)), ..self.applied(place as usize, &Written::by(run)) };
         let pending = self.areas.words[1];
         self.areas.words[2 + pending as usize] = place << 32 | u64::from(handle(frame));
         self.areas.words[1] = pending + 1;

@@ -2,7 +2,8 @@
 //! areas' real layout, but for the counts and the durable mark. It tries the comparison out, and faults can be put into
 //! it one at a time (WIZHDULET_FAULT) to see that the comparison finds each.
 
-mod read;
+pub mod read;
+pub mod segments;
 mod session;
 
 use std::cell::RefCell;
@@ -13,7 +14,8 @@ use crate::call::Key;
 use crate::fix;
 use crate::library::{Areas, Ask, Counters, Imported, Place, Resent, Settings, Size};
 use crate::wire;
-use read::{Batch, Change, Fault, Frame, LATEST, Left};
+use read::{Batch, Change, Fault, Frame, LATEST};
+use segments::Held;
 use session::{SHORT, Session};
 
 const WORK: u64 = 1 << 63;
@@ -66,6 +68,7 @@ struct Standby<'a> {
     row: &'a mut [Place],
     words: &'a mut [u64],
     holds: &'a mut [u8],
+    ends: &'a mut [u64],
     sessions: Vec<Session>,
     size: Size,
     places: u64,
@@ -306,39 +309,48 @@ impl Standby<'_> {
         index * self.hold as usize
     }
 
-    fn held(&self, index: usize) -> Vec<Change> {
-        let form = &self.holds[self.hold_start(index)..][..self.row[index].held_len as usize];
-        let mut left = Left(form, if fault(54) { self.version() } else { LATEST });
-        let mut changes = Vec::new();
-        while !left.0.is_empty() {
-            changes.extend(left.change());
-        }
-        changes
+    /// The words of a place.
+    fn words_of(&mut self, index: usize) -> &mut [u64] {
+        let index = index + usize::from(fault(72));
+        segments::own(self.ends, self.row.len() as u64, index as u64)
     }
 
-    /// Holds a part: 16, 17, 18, or its changes written after those held.
-    fn hold(&mut self, index: usize, batch: &Batch) -> Result<(), u32> {
-        let Place { held_len, held_bytes, .. } = self.row[index];
-        if held_len == 0 && !matches!(batch.changes.first(), Some(Change::Reset)) {
+    fn held(&mut self, index: usize) -> Held {
+        let (start, len) = (self.hold_start(index), self.row[index].held_len as usize);
+        let version = if fault(54) { self.version() } else { LATEST };
+        let words = segments::own(self.ends, self.row.len() as u64, index as u64);
+        segments::held(version, &self.holds[start..start + len], words)
+    }
+
+    /// Holds a part: 16, 17, 18, or its changes written after those held, which it gives.
+    fn hold(&mut self, index: usize, batch: &Batch) -> Result<Vec<Change>, u32> {
+        let before = self.held(index);
+        let none = before.changes.is_empty();
+        let held_bytes = if none { 0 } else { self.row[index].held_bytes };
+        if none && !matches!(batch.changes.first(), Some(Change::Reset)) {
             return Err(16);
         }
         let of = |change: &Change| if let Change::Record(_, Some(msg)) = change { msg.len() as u64 } else { 0 };
         let sum = held_bytes.saturating_add(batch.changes.iter().map(of).sum());
         if sum > 4_294_967_296 {
+            self.row[index].held_len = before.used as u64;
             self.row[index].held_bytes = if fault(5) { held_bytes } else { sum };
             return Err(17);
         }
-        let len = held_len + batch.form.len() as u64;
+        let len = (before.used + batch.form.len()) as u64;
         if len > self.hold {
             return Err(18);
         }
-        let start = self.hold_start(index) + held_len as usize;
+        let start = self.hold_start(index) + before.used;
         self.holds[start..start + batch.form.len()].copy_from_slice(&batch.form);
         if fault(10) && (start + batch.form.len()) % self.hold as usize != 0 {
             self.holds[start + batch.form.len()] = 0;
         }
         (self.row[index].held_len, self.row[index].held_bytes) = (len, sum);
-        Ok(())
+        if batch.part == wire::WHOLE || fault(73) {
+            segments::close(self.words_of(index), &before, len as usize);
+        }
+        Ok(before.changes)
     }
 
     fn let_go(&mut self, index: usize) {
@@ -366,8 +378,12 @@ impl Standby<'_> {
             return Ok(wire::nack(handle, DIVERGED));
         }
         match part {
-            wire::COMMIT if self.row[index].held_len > 0 => Err(15),
-            wire::COMMIT => self.commit(index, commit_no, &batch.changes),
+            wire::COMMIT if !self.held(index).changes.is_empty() => Err(15),
+            wire::COMMIT => {
+                // Where nothing is held the record says so, whatever it said before.
+                self.row[index].held_len = 0;
+                self.commit(index, commit_no, &batch.changes)
+            }
             _ => self.whole(index, batch),
         }
     }
@@ -375,7 +391,7 @@ impl Standby<'_> {
     /// A Whole is held, a LastWhole joined to all held before it.
     fn whole(&mut self, index: usize, batch: &Batch) -> Answer {
         let Batch { handle, commit_no, part, .. } = *batch;
-        self.hold(index, batch)?;
+        let mut changes = self.hold(index, batch)?;
         if part == wire::WHOLE {
             if fault(17) {
                 let session = &mut self.sessions[self.row[index].place as usize];
@@ -384,7 +400,7 @@ impl Standby<'_> {
             self.row[index].commit_no = commit_no;
             return Ok(wire::ack(handle, commit_no));
         }
-        let changes = self.held(index);
+        changes.extend(batch.changes.iter().cloned());
         if !fault(6) {
             self.let_go(index);
         }
@@ -408,7 +424,7 @@ impl Standby<'_> {
 }
 
 /// What a call gives: the answer's frame, or a refusal.
-pub struct Said(Answer);
+pub struct Said(pub Answer);
 
 /// Makes a store, and a standby over it.
 pub fn made(_: &mut Counters, areas: &mut Areas, settings: Settings) -> u64 {
@@ -429,6 +445,7 @@ pub fn said(counters: &mut Counters, areas: &mut Areas, settings: Settings, ask:
         row: &mut areas.row,
         words: &mut areas.words,
         holds: &mut areas.holds,
+        ends: &mut areas.ends,
         sessions: STORES.with_borrow_mut(|stores| stores.remove(&store)).unwrap_or_default(),
         size: settings.size,
         places: sessions.into(),

@@ -1,6 +1,6 @@
 //! Reading, by document 01's table alone, and document 02's rules for a stamp: the day, and the digits behind its point.
 
-use crate::faults::fault;
+use super::fault;
 
 pub enum Fault {
     More,

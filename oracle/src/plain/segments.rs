@@ -1,7 +1,7 @@
 //! What a hold area and the words of its segments mean, read a second time from the words of docs/AREAS.md.
 
-use super::read::{Change, LATEST, Left};
-use crate::faults::fault;
+use super::fault;
+use super::read::{Change, Left};
 
 /// The words of the row's place: the words are divided evenly among the places.
 pub fn own(words: &mut [u64], places: u64, place: u64) -> &mut [u64] {
@@ -18,7 +18,7 @@ pub fn closed(words: &[u64], held: usize) -> Vec<usize> {
     let mut ends: Vec<usize> = Vec::new();
     for word in words {
         let before = ends.last().map_or(0, |end| *end as u64);
-        let rises = if fault(1) { *word >= before && *word > 0 } else { *word > before };
+        let rises = if fault(65) { *word >= before && *word > 0 } else { *word > before };
         if !rises || *word > held as u64 {
             break;
         }
@@ -28,17 +28,17 @@ pub fn closed(words: &[u64], held: usize) -> Vec<usize> {
 }
 
 /// One change at the start of these bytes, and how many it takes.
-fn change(bytes: &[u8]) -> Option<(Change, usize)> {
-    let mut left = Left(bytes, LATEST);
+fn change(version: u16, bytes: &[u8]) -> Option<(Change, usize)> {
+    let mut left = Left(bytes, version);
     let change = left.change().ok()?;
     Some((change, bytes.len() - left.0.len()))
 }
 
 /// The changes of a closed segment, and how many of them were none that can be read.
-fn total(mut bytes: &[u8]) -> (Vec<Change>, u64) {
+fn total(version: u16, mut bytes: &[u8]) -> (Vec<Change>, u64) {
     let (mut changes, mut bad) = (Vec::new(), 0);
     while !bytes.is_empty() {
-        let taken = match change(bytes) {
+        let taken = match change(version, bytes) {
             Some((change, taken)) => {
                 changes.push(change);
                 taken
@@ -46,7 +46,7 @@ fn total(mut bytes: &[u8]) -> (Vec<Change>, u64) {
             None => {
                 changes.push(Change::Reset);
                 bad += 1;
-                if fault(2) { 2.min(bytes.len()) } else { 1 }
+                if fault(66) { 2.min(bytes.len()) } else { 1 }
             }
         };
         bytes = &bytes[taken..];
@@ -62,22 +62,23 @@ pub struct Held {
     /// How many bytes the changes take.
     pub used: usize,
     /// How many bytes of closed segments count as a Reset.
+    #[allow(dead_code)]
     pub bad: u64,
 }
 
 /// The changes held in these bytes with these words.
-pub fn held(bytes: &[u8], words: &[u64]) -> Held {
+pub fn held(version: u16, bytes: &[u8], words: &[u64]) -> Held {
     let ends = closed(words, bytes.len());
     let (mut changes, mut bad, mut from) = (Vec::new(), 0, 0);
     for end in &ends {
-        let (more, none) = total(&bytes[from..*end]);
+        let (more, none) = total(version, &bytes[from..*end]);
         changes.extend(more);
         bad += none;
         from = *end;
     }
     let mut used = from;
-    if !(fault(3) && !ends.is_empty()) {
-        while let Some((next, taken)) = change(&bytes[used..]) {
+    if !(fault(67) && !ends.is_empty()) {
+        while let Some((next, taken)) = change(version, &bytes[used..]) {
             changes.push(next);
             used += taken;
         }
@@ -85,21 +86,13 @@ pub fn held(bytes: &[u8], words: &[u64]) -> Held {
     Held { changes, closed: ends.len(), from, used, bad }
 }
 
-/// A Whole with this run: whether there was room. Its changes stand behind those held; the word behind those that count becomes the new length if
-/// the segment has 65,536 bytes then, else 0; if there is no such word nothing is written.
-pub fn whole(area: &mut [u8], words: &mut [u64], len: &mut usize, run: &[u8]) -> bool {
-    let before = held(&area[..*len], words);
-    let end = before.used + run.len();
-    if end > area.len() {
-        return false;
+/// A Whole ends there: the word behind those that count becomes the new length if the segment has 65,536 bytes then, else 0; if there is no such
+/// word nothing is written.
+pub fn close(words: &mut [u64], before: &Held, end: usize) {
+    let Some(word) = words.get_mut(before.closed) else { return };
+    let least = 65_536 + usize::from(fault(68)) - usize::from(fault(71));
+    let long = end - before.from >= least;
+    if long || !fault(69) {
+        *word = if long { end as u64 - u64::from(fault(70)) } else { 0 };
     }
-    area[before.used..end].copy_from_slice(run);
-    if let Some(word) = words.get_mut(before.closed) {
-        let long = end - before.from >= if fault(4) { 65_537 } else { 65_536 };
-        if long || !fault(5) {
-            *word = if long { end as u64 - u64::from(fault(6)) } else { 0 };
-        }
-    }
-    *len = end;
-    true
 }

@@ -49,6 +49,13 @@ impl<S: SessionStorage> Replica<S> {
         holding.map(|bound| bound.held_bytes = bytes as usize).is_some()
     }
 
+    /// Sets what a bound handle holds, and the sum of its message bytes.
+    pub fn set_held(&mut self, handle: u32, held: Vec<Op>, bytes: u64) {
+        if let Some(bound) = self.bound.get_mut(&handle) {
+            (bound.held, bound.held_bytes) = (held, bytes as usize);
+        }
+    }
+
     pub fn promoted(&self) -> bool {
         self.promoted
     }
@@ -87,6 +94,15 @@ impl<S: SessionStorage> Replica<S> {
         handles.sort_by_key(|handle| handle.number);
         handles
     }
+}
+
+/// The number that follows on these changes, after a session's next.
+pub fn next_after(next: u64, changes: &[Op]) -> u64 {
+    changes.iter().fold(next, |next, change| match change {
+        Op::Record { seq, .. } => seq.wrapping_add(1),
+        Op::Reset => 1,
+        _ => next,
+    })
 }
 
 pub fn summary(log: &mut dyn StoredSession, n: u64) -> Summary {

@@ -1,24 +1,25 @@
 //! Hold areas of any content with the words of their segments: scripts by chance, and the second reading's answers to them.
 
-mod faults {
-    /// Whether the fault of this number is put in (WIZHDULET_FAULT).
-    pub fn fault(number: u32) -> bool {
-        static FAULT: std::sync::OnceLock<u32> = std::sync::OnceLock::new();
-        *FAULT.get_or_init(|| std::env::var("WIZHDULET_FAULT").map_or(0, |n| n.parse().unwrap_or(0))) == number
-    }
-}
 #[path = "../plain/read.rs"]
 #[allow(dead_code)]
 mod read;
 #[path = "../plain/segments.rs"]
 mod segments;
 mod chance;
+#[path = "../pieces.rs"]
+mod pieces;
 mod script;
 #[path = "../splitmix.rs"]
 mod splitmix;
 
 use std::io::Read;
 use std::process::ExitCode;
+
+/// Whether the fault of this number is put in (WIZHDULET_FAULT).
+fn fault(number: u32) -> bool {
+    static FAULT: std::sync::OnceLock<u32> = std::sync::OnceLock::new();
+    *FAULT.get_or_init(|| std::env::var("WIZHDULET_FAULT").map_or(0, |n| n.parse().unwrap_or(0))) == number
+}
 
 fn main() -> ExitCode {
     let arguments: Vec<String> = std::env::args().skip(1).collect();

@@ -3,8 +3,9 @@
 use std::collections::BTreeMap;
 use std::fmt::Write;
 
-use crate::read::Change;
-use crate::segments::{closed, held, own, whole};
+use crate::pieces::record;
+use crate::read::{Change, LATEST};
+use crate::segments::{close, closed, held, own};
 
 const AREA: usize = 262_144;
 
@@ -47,14 +48,6 @@ fn fits(changes: &[Change], mut next: u64) -> bool {
     true
 }
 
-pub fn record(seq: u64, len: usize) -> Vec<u8> {
-    let mut bytes: Vec<u8> = (0..len + 13).map(|i| (i as u64).wrapping_add(seq) as u8).collect();
-    bytes[0] = 4;
-    bytes[1..9].copy_from_slice(&seq.to_le_bytes());
-    bytes[9..13].copy_from_slice(&(len as u32).to_le_bytes());
-    bytes
-}
-
 /// So many Records, as far as there is room for them.
 fn records(room: usize, count: u64, len: usize) -> Vec<u8> {
     let mut bytes = Vec::new();
@@ -64,6 +57,19 @@ fn records(room: usize, count: u64, len: usize) -> Vec<u8> {
         }
     }
     bytes
+}
+
+/// A Whole with this run: whether there was room. Its changes stand behind those held.
+fn whole(area: &mut [u8], words: &mut [u64], len: &mut usize, run: &[u8]) -> bool {
+    let before = held(LATEST, &area[..*len], words);
+    let end = before.used + run.len();
+    if end > area.len() {
+        return false;
+    }
+    area[before.used..end].copy_from_slice(run);
+    close(words, &before, end);
+    *len = end;
+    true
 }
 
 fn digits(text: &str) -> Vec<u8> {
@@ -109,7 +115,7 @@ impl Area {
 
     fn tell(&mut self, answers: &mut String, seen: &mut BTreeMap<&'static str, u64>) {
         let words = own(&mut self.words[..self.lent], self.places, self.place);
-        let what = held(&self.bytes[..self.len], words);
+        let what = held(LATEST, &self.bytes[..self.len], words);
         let none = what.changes.is_empty();
         let next = words.get(what.closed).copied();
         for (way, is) in [

@@ -12,7 +12,7 @@ pub returns-in-Some : goal.returns-in-Some
 returns-in-Some c =
     some_line c.args.line.now c.args.counters c.args.row c.args.words.now c.args.bytes.now c.args.holds.now c.args.out.now _
     (record { epoch = (let e : Fits w64 c.args.counters.epoch.0 = search rules in e.fits); words = λ i. (c.slice_known-1.given i).fits; bytes = λ i. (c.slice_known-2-1.given i).fits })
-    c.read_line.ensures (λ i. (c.slice_known-6-1.given i).fits) c.in-Some.is (takes_any c.read_line.auto.out c.requires.in_bounds) c.settings.ensures c.on_frame-answer.ensures (rw c.of_byte-protocol.ensures at c.put_answer.ensures)
+    c.read_line.ensures (λ i. (c.slice_known-6-1.given i).fits) c.in-Some.is (takes_any c.read_line.auto.out c.requires.in_bounds) c.settings.ensures c.on_frame-answer.auto.ends c.on_frame-answer.ensures (rw c.of_byte-protocol.ensures at c.put_answer.ensures)
 
 pub returns-in-None : goal.returns-in-None
 returns-in-None c =

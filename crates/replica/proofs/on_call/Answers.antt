@@ -1,6 +1,8 @@
 use borrow.Author.Rules.{rules}
 use Rattle.std.proofs.Common.{sym, subst, List}
 use Rattle.standby_row.specs.declared.Bound.{Bound}
+use Rattle.standby_segments.specs.Segments.{hold_areas}
+use Rattle.standby_state.specs.Lent.{holds_of}
 use Rattle.standby_call.specs.Call.{call_of}
 use Rattle.standby_step.specs.Calls.{Called}
 use Rattle.standby_step.proofs.Called.{called}
@@ -15,6 +17,6 @@ returns c =
     let call = call_of a.call a.frame.now in
     let seen = rw (c.sought_by-handle.ensures, c.places_in_use-used.ensures, c.room_of-room.ensures) at c.find-lookup.ensures in
     at_end
-    (subst (λ (r : List Bound). Called a.settings call a.counters.now o.replica a.row.now r a.words.now n.words.now a.bytes.now n.bytes.now a.holds.now n.holds.now o.answer) (sym c.apply.ensures)
-    (called a.settings a.counters.now a.row.now call a.words.now n.words.now a.bytes.now n.bytes.now a.holds.now n.holds.now o c.find-lookup.result seen c.run-outcome.ensures.is))
-    (search rules) (search rules) (search rules)
+    (subst (λ (r : List Bound). Called a.settings call a.counters.now o.replica a.row.now r a.words.now n.words.now a.bytes.now n.bytes.now (hold_areas a.holds.now a.ends.now) (holds_of n) o.answer) (sym c.apply.ensures)
+    (called a.settings a.counters.now a.row.now call a.words.now n.words.now a.bytes.now n.bytes.now (hold_areas a.holds.now a.ends.now) (holds_of n) o c.find-lookup.result seen c.run-outcome.ensures.is))
+    (search rules) (search rules) (search rules) (search rules)

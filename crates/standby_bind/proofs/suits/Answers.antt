@@ -1,8 +1,6 @@
 use Rattle.std.proofs.Common.{sym, ◌∙◌}
-use mathlib.Core.Path.{ap, subst}
+use mathlib.Core.Path.{subst}
 use Rattle.std.specs.Prelude.{ℕ, ◌<◌, get_or, List}
-use Rattle.model_session.specs.Session.{suits}
-use Rattle.store_areas.specs.Areas.{place_at}
 use Rattle.frame_fields.specs.Answers.{key_of}
 use Rattle.standby_bind.proofs.Laws.{found_less, found_suits, new_suits}
 use Rattle.standby_bind.proofs.suits.Goals as goal
