@@ -13,7 +13,7 @@
 
 /* Four sessions of at most 4,096 message bytes and 64 messages; four handles. */
 enum { S = 4, C = 4096, M = 64, HANDLES = 4 };
-static const wz_settings_t settings = { { S, C, M }, 7, 0 };
+static const wz_settings_t settings = WZ_MADE_SETTINGS(S, C, M, 7, 0);
 static wz_replica_t counters;
 static wz_bound_t row[HANDLES];
 static uint64_t words[WZ_WORDS(S, M)];

@@ -5,41 +5,28 @@
 //!
 //! The records and functions are those of include/wizhdulet.h, in its order.
 use std::io::Read;
-#[repr(C)] #[derive(Clone, Copy, Default)]
-struct Replica { epoch: u64, connections: u64, promoted: u8, checked: u8, version2: u8 }
-#[repr(C)] #[derive(Clone, Copy, Default)]
-struct Bound { used: u8, handle: u32, place: usize, commit_no: u64, held_len: usize, held_bytes: u64 }
-#[repr(C)] #[derive(Clone, Copy)]
-struct Shape { places: u32, bytes: u32, messages: u32 }
-#[repr(C)] #[derive(Clone, Copy)]
-struct Settings { shape: Shape, incarnation: u64, max_lag: u64 }
-#[repr(C)] #[derive(Clone, Copy)]
-struct Span { at: usize, len: u32 }
-#[repr(C)] #[derive(Clone, Copy)]
-struct Summary { next_outgoing: u64, next_incoming: u64, has_in_flight: u8, in_flight: u64, created_at: Span, marks: Span, last_outgoing: u64 }
-#[repr(C)] #[derive(Clone, Copy)]
-struct Answer { refusal: u8, kind: u8, handle: u32, epoch: u64, incarnation: u64, commit_no: u64, reason: u8, summary: Summary }
+#[repr(C)] #[derive(Clone, Copy, Default)] struct Replica { epoch: u64, connections: u64, promoted: u8, checked: u8, version2: u8 }
+#[repr(C)] #[derive(Clone, Copy, Default)] struct Bound { used: u8, handle: u32, place: usize, commit_no: u64, held_len: usize, held_bytes: u64 }
+#[repr(C)] #[derive(Clone, Copy)] struct Shape { places: u32, bytes: u32, messages: u32 }
+#[repr(C)] #[derive(Clone, Copy)] struct Settings { shape: Shape, incarnation: u64, max_lag: u64, tells_lowest: u8 }
+#[repr(C)] #[derive(Clone, Copy)] struct Span { at: usize, len: u32 }
+#[repr(C)] #[derive(Clone, Copy)] struct Summary { next_outgoing: u64, next_incoming: u64, has_in_flight: u8, in_flight: u64, created_at: Span, marks: Span, last_outgoing: u64 }
+#[repr(C)] #[derive(Clone, Copy)] struct Answer { refusal: u8, kind: u8, handle: u32, epoch: u64, incarnation: u64, commit_no: u64, reason: u8, summary: Summary, has_lowest: u8, lowest: u64 }
 
-#[rustfmt::skip]
 #[link(name = "wizhdulet", kind = "static")]
 unsafe extern "C" {
     fn wz_version() -> u32;
     fn wz_store_make(words: *mut u64, words_len: usize, bytes: *const u8, bytes_len: usize, shape: Shape) -> u8;
     fn wz_standby_make(counters: &mut Replica, row: *mut Bound, row_len: usize, words: *mut u64, words_len: usize, bytes: *const u8, bytes_len: usize, settings: Settings) -> Answer;
-    fn wz_on_frame(counters: &mut Replica, row: *mut Bound, row_len: usize, words: *mut u64, words_len: usize, bytes: *mut u8, bytes_len: usize,
-        holds: *mut u8, holds_len: usize, ends: *mut u64, ends_len: usize, frame: *const u8, frame_len: usize, settings: Settings) -> Answer;
-    fn wz_disconnected_from(counters: &mut Replica, row: *mut Bound, row_len: usize, words: *mut u64, words_len: usize, bytes: *mut u8, bytes_len: usize,
-        holds: *mut u8, holds_len: usize, ends: *mut u64, ends_len: usize, connection: u64, settings: Settings) -> Answer;
-    fn wz_promote(counters: &mut Replica, row: *mut Bound, row_len: usize, words: *mut u64, words_len: usize, bytes: *mut u8, bytes_len: usize,
-        holds: *mut u8, holds_len: usize, ends: *mut u64, ends_len: usize, settings: Settings) -> Answer;
+    fn wz_on_frame(counters: &mut Replica, row: *mut Bound, row_len: usize, words: *mut u64, words_len: usize, bytes: *mut u8, bytes_len: usize, holds: *mut u8, holds_len: usize, ends: *mut u64, ends_len: usize, frame: *const u8, frame_len: usize, settings: Settings) -> Answer;
+    fn wz_disconnected_from(counters: &mut Replica, row: *mut Bound, row_len: usize, words: *mut u64, words_len: usize, bytes: *mut u8, bytes_len: usize, holds: *mut u8, holds_len: usize, ends: *mut u64, ends_len: usize, connection: u64, settings: Settings) -> Answer;
+    fn wz_promote(counters: &mut Replica, row: *mut Bound, row_len: usize, words: *mut u64, words_len: usize, bytes: *mut u8, bytes_len: usize, holds: *mut u8, holds_len: usize, ends: *mut u64, ends_len: usize, settings: Settings) -> Answer;
     fn wz_answer(answer: Answer, bytes: *const u8, bytes_len: usize, out: *mut u8, out_len: usize, version: u16) -> u64;
     fn wz_read(frame: *const u8, frame_len: usize, version: u16) -> u64;
     fn wz_session(words: *const u64, words_len: usize, bytes: *const u8, bytes_len: usize, out: *mut u8, out_len: usize, sessions: u32, c: u32, m: u32, place: usize, n: u64) -> u64;
-    fn wz_find(words: *const u64, words_len: usize, bytes: *const u8, bytes_len: usize, begin: *const u8, begin_len: usize, sender: *const u8, sender_len: usize,
-        target: *const u8, target_len: usize, suffix: *const u8, suffix_len: usize, sessions: u32, c: u32, m: u32) -> u64;
+    fn wz_find(words: *const u64, words_len: usize, bytes: *const u8, bytes_len: usize, begin: *const u8, begin_len: usize, sender: *const u8, sender_len: usize, target: *const u8, target_len: usize, suffix: *const u8, suffix_len: usize, sessions: u32, c: u32, m: u32) -> u64;
     fn wz_message(words: *const u64, words_len: usize, bytes: *const u8, bytes_len: usize, out: *mut u8, out_len: usize, sessions: u32, c: u32, m: u32, place: usize, number: u64) -> u64;
 }
-
 
 /// A code's count, or the refusal; a stream that isn't a whole frame yet is `Ok(0)`.
 fn count(code: u64) -> Result<usize, u8> {
@@ -64,10 +51,9 @@ impl Standby {
     fn new(shape: Shape, handles: usize, incarnation: u64, max_lag: u64) -> Result<Self, u8> {
         let (s, c, m) = (shape.places as usize, shape.bytes as usize, shape.messages as usize);
         let (words, bytes) = (vec![0; 66 + s * (16 + 2 * m)], vec![0; s * (224 + c)]);
-        let hold = c + 22 * m + 131;
-        // A word for each 65,536 bytes of a hold area says where a closed segment ends.
+        let hold = c + 22 * m + 131; // A word for each 65,536 bytes of a hold area says where a closed segment ends.
         let (holds, ends) = (vec![0; handles * hold], vec![0; handles * (hold / 65_536)]);
-        let mut made = Standby { counters: Replica::default(), row: vec![Bound::default(); handles], words, bytes, holds, ends, settings: Settings { shape, incarnation, max_lag } };
+        let mut made = Standby { counters: Replica::default(), row: vec![Bound::default(); handles], words, bytes, holds, ends, settings: Settings { shape, incarnation, max_lag, tells_lowest: 1 } };
         let (k, r, rl, w, wl, b, bl, ..) = lent!(made);
         match unsafe { wz_store_make(w, wl, b, bl, shape) } {
             0 => match unsafe { wz_standby_make(k, r, rl, w, wl, b, bl, made.settings) }.refusal { 0 => Ok(made), refusal => Err(refusal) },
@@ -89,23 +75,13 @@ impl Standby {
     }
 
     fn disconnected(&mut self) {
-        let connection = self.counters.connections;
-        let (k, r, rl, w, wl, b, bl, h, hl, e, el) = lent!(self);
+        let (connection, (k, r, rl, w, wl, b, bl, h, hl, e, el)) = (self.counters.connections, lent!(self));
         unsafe { wz_disconnected_from(k, r, rl, w, wl, b, bl, h, hl, e, el, connection, self.settings) };
     }
 
     fn promote(&mut self) -> Result<(), u8> {
         let (k, r, rl, w, wl, b, bl, h, hl, e, el) = lent!(self);
         match unsafe { wz_promote(k, r, rl, w, wl, b, bl, h, hl, e, el, self.settings) }.refusal { 0 => Ok(()), refusal => Err(refusal) }
-    }
-
-    /// The session at a place, as wz_session writes it.
-    fn session(&self, place: usize) -> Result<Vec<u8>, u8> {
-        let Shape { places, bytes, messages } = self.settings.shape;
-        let mut out = vec![0; 280];
-        let code = unsafe { wz_session(self.words.as_ptr(), self.words.len(), self.bytes.as_ptr(), self.bytes.len(), out.as_mut_ptr(), out.len(), places, bytes, messages, place, u64::MAX) };
-        out.truncate(count(code)?);
-        Ok(out)
     }
 
     /// The stored message with a number of the session with a key; none if there is no such session or message.
@@ -122,7 +98,11 @@ impl Standby {
     fn show(&self, when: &str) {
         let said = |flag: u8, word: &str| if flag != 0 { word.to_string() } else { format!("not {word}") };
         println!("{when}: epoch {}, {}, {}", self.counters.epoch, said(self.counters.checked, "checked"), said(self.counters.promoted, "promoted"));
-        (0..self.words[0] as usize).filter_map(|place| self.session(place).ok()).for_each(|told| show_session(&told));
+        let (Shape { places, bytes, messages }, mut told) = (self.settings.shape, vec![0; 280]);
+        let (w, wl, b, bl, out, room) = (self.words.as_ptr(), self.words.len(), self.bytes.as_ptr(), self.bytes.len(), told.as_mut_ptr(), told.len());
+        for place in 0..self.words[0] as usize {
+            if count(unsafe { wz_session(w, wl, b, bl, out, room, places, bytes, messages, place, u64::MAX) }).is_ok() { show_session(&told); }
+        }
     }
 }
 
@@ -145,9 +125,8 @@ fn show_session(told: &[u8]) {
 }
 
 const KINDS: [&str; 9] = ["none", "Hello", "Welcome", "Bind", "Batch", "Ack", "Nack", "Bound", "Checked"];
-
 fn main() {
-    assert_eq!(unsafe { wz_version() }, 6, "these declarations are those of version 0.6");
+    assert_eq!(unsafe { wz_version() }, 65_536, "these declarations are those of version 1.0");
     let mut standby = Standby::new(Shape { places: 4, bytes: 4096, messages: 64 }, 4, 7, 0).expect("the areas fit the settings");
     let mut stream = Vec::new();
     std::io::stdin().read_to_end(&mut stream).expect("standard input is read");
@@ -165,7 +144,6 @@ fn main() {
     standby.show("taken over");
     // What a counterparty's ResendRequest gets: each stored message again, a gap fill where none is.
     for number in 1..=6 {
-        let served = standby.message(["FIX.4.4", "A", "B", ""], number);
-        println!("    {number} {}", served.map_or("as a gap fill".into(), |message| format!("again: {}", String::from_utf8_lossy(&message))));
+        println!("    {number} {}", standby.message(["FIX.4.4", "A", "B", ""], number).map_or("as a gap fill".into(), |message| format!("again: {}", String::from_utf8_lossy(&message))));
     }
 }

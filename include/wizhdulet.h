@@ -26,9 +26,9 @@
 extern "C" {
 #endif
 
-/* ---- Version: that of the release, VERSION. Before 1.0 the minor is raised with every record and signature that changes, from 1.0 on the major. */
-#define WZ_VERSION_MAJOR 0
-#define WZ_VERSION_MINOR 6
+/* ---- Version: that of the release, VERSION. The major is raised with every record, signature and number that changes, the minor with what is added. */
+#define WZ_VERSION_MAJOR 1
+#define WZ_VERSION_MINOR 0
 #define WZ_VERSION_PATCH 0
 /* Both as one number, as wz_version tells them. */
 #define WZ_VERSION (WZ_VERSION_MAJOR * 65536 + WZ_VERSION_MINOR)
@@ -189,11 +189,15 @@ typedef struct wz_shape_t {
     uint32_t places, bytes, messages;
 } wz_shape_t;
 
-/* What no call changes. `incarnation` is another at each start (0 is taken as 1), `max_lag` the most lag that a Bind may ask for and what promotion skips. */
+/* What no call changes. `incarnation` is another at each start (0 is taken as 1), `max_lag` the most lag that a Bind may ask for and what promotion skips;
+   `tells_lowest` says whether an applied Commit hands up the lowest message on hand: one walk over what its session has stored, some 1 ns a message. */
 typedef struct wz_settings_t {
     wz_shape_t shape;
     uint64_t incarnation, max_lag;
+    uint8_t tells_lowest;
 } wz_settings_t;
+/* As they are made: it does. */
+#define WZ_MADE_SETTINGS(s, c, m, incarnation, max_lag) { { (s), (c), (m) }, (incarnation), (max_lag), 1 }
 
 /* A part of the store's byte area. */
 typedef struct wz_span_t {
@@ -210,13 +214,16 @@ typedef struct wz_bound_summary_t {
     uint64_t last_outgoing;
 } wz_bound_summary_t;
 
-/* What a call on the standby answers: a refusal; or a frame by its kind, with the fields of that kind; or both 0: done. */
+/* What a call on the standby answers: a refusal; or a frame by its kind, with the fields of that kind; or both 0: done. Beside the frame, which doesn't carry
+   it, an applied Commit (if the settings ask) or LastWhole has the lowest number still stored of its session, 0 for none; every other answer has none. */
 typedef struct wz_answer_t {
     uint8_t refusal, kind;
     uint32_t handle;
     uint64_t epoch, incarnation, commit_no;
     uint8_t reason;
     wz_bound_summary_t summary;
+    uint8_t has_lowest;
+    uint64_t lowest;
 } wz_answer_t;
 
 /* Of the store's functions: 0 and the value, or the refusal and 0. */
@@ -231,10 +238,11 @@ typedef struct wz_listed_t {
     size_t length, bytes;
 } wz_listed_t;
 
-/* Of wz_import: the new session's place; beside 28, 29 and 30 the offset of the first faulty message. */
+/* Of wz_import: the new session's place and the lowest number stored of it, 0 for none; beside 28, 29 and 30 the offset of the first faulty message. */
 typedef struct wz_built_t {
     uint8_t refusal;
     size_t place, at;
+    uint64_t lowest;
 } wz_built_t;
 
 /* Of wz_quorum_figure. */
@@ -328,6 +336,9 @@ uint64_t wz_find(const uint64_t *words, size_t words_len, const uint8_t *bytes, 
 uint64_t wz_message(const uint64_t *words, size_t words_len, const uint8_t *bytes, size_t bytes_len, uint8_t *out, size_t out_len, uint32_t sessions, uint32_t c,
     uint32_t m, size_t place, uint64_t number);
 
+/* The lowest number still stored of the session at a place, 0 for none: how far back a resend can go. 25. */
+wz_store_answer_t wz_lowest(const uint64_t *words, size_t words_len, const uint8_t *bytes, size_t bytes_len, uint32_t sessions, uint32_t c, uint32_t m, size_t place);
+
 /* The next frame of sending a session whole in a version, until WZ_LAST; `sending` has the last commit number, three zeros, and the line (WZ_LINE_..) at first. 25, 11,
    32, 24; later 25, 11, 32 (only where the frame to be sent has the stamp, the first), 9. */
 uint64_t wz_send(const uint64_t *words, size_t words_len, const uint8_t *bytes, size_t bytes_len, uint64_t *sending, size_t sending_len, uint8_t *out, size_t out_len,
@@ -373,12 +384,13 @@ wz_store_answer_t wz_store_count(const uint64_t *words, size_t words_len, const 
 uint8_t wz_store_mark_durable(uint64_t *words, size_t words_len, const uint8_t *bytes, size_t bytes_len, wz_shape_t shape, size_t place);
 uint8_t wz_store_take_over(uint64_t *words, size_t words_len, uint8_t *bytes, size_t bytes_len, wz_shape_t shape, size_t place, uint64_t lag);
 
-/* The eight changes: 25, then 40 for wz_store_record (the next number's message) and wz_store_record_none, 6 for the stamp, 7 for the marks. */
+/* The eight changes: 25, then 40 for wz_store_record (the next number's message) and wz_store_record_none, 6 for the stamp, 7 for the marks. The value of
+   wz_store_record is the lowest number still stored then, 0 for none, also where the message is longer than C. */
 uint8_t wz_store_set_next_incoming(uint64_t *words, size_t words_len, const uint8_t *bytes, size_t bytes_len, wz_shape_t shape, size_t place, uint64_t seq);
 uint8_t wz_store_set_next_incoming_in_flight(uint64_t *words, size_t words_len, const uint8_t *bytes, size_t bytes_len, wz_shape_t shape, size_t place, uint64_t seq,
     uint64_t in_flight);
 uint8_t wz_store_set_in_flight(uint64_t *words, size_t words_len, const uint8_t *bytes, size_t bytes_len, wz_shape_t shape, size_t place, uint64_t seq);
-uint8_t wz_store_record(uint64_t *words, size_t words_len, uint8_t *bytes, size_t bytes_len, wz_shape_t shape, size_t place, const uint8_t *text, size_t text_len);
+wz_store_answer_t wz_store_record(uint64_t *words, size_t words_len, uint8_t *bytes, size_t bytes_len, wz_shape_t shape, size_t place, const uint8_t *text, size_t text_len);
 uint8_t wz_store_record_none(uint64_t *words, size_t words_len, const uint8_t *bytes, size_t bytes_len, wz_shape_t shape, size_t place, uint64_t seq);
 uint8_t wz_store_reset(uint64_t *words, size_t words_len, const uint8_t *bytes, size_t bytes_len, wz_shape_t shape, size_t place);
 uint8_t wz_store_set_created_at(uint64_t *words, size_t words_len, uint8_t *bytes, size_t bytes_len, wz_shape_t shape, size_t place, const uint8_t *text,
@@ -446,16 +458,18 @@ WZ_LAYOUT(replica, sizeof(wz_replica_t) == 24 && WZ_AT(wz_replica_t, connections
 WZ_LAYOUT(bound, sizeof(wz_bound_t) == 40 && WZ_AT(wz_bound_t, handle, 4) && WZ_AT(wz_bound_t, place, 8) && WZ_AT(wz_bound_t, commit_no, 16)
     && WZ_AT(wz_bound_t, held_len, 24) && WZ_AT(wz_bound_t, held_bytes, 32));
 WZ_LAYOUT(shape, sizeof(wz_shape_t) == 12 && WZ_AT(wz_shape_t, bytes, 4) && WZ_AT(wz_shape_t, messages, 8));
-WZ_LAYOUT(settings, sizeof(wz_settings_t) == 32 && WZ_AT(wz_settings_t, incarnation, 16) && WZ_AT(wz_settings_t, max_lag, 24));
+WZ_LAYOUT(settings, sizeof(wz_settings_t) == 40 && WZ_AT(wz_settings_t, incarnation, 16) && WZ_AT(wz_settings_t, max_lag, 24)
+    && WZ_AT(wz_settings_t, tells_lowest, 32));
 WZ_LAYOUT(span, sizeof(wz_span_t) == 16 && WZ_AT(wz_span_t, len, 8));
 WZ_LAYOUT(bound_summary, sizeof(wz_bound_summary_t) == 72 && WZ_AT(wz_bound_summary_t, next_incoming, 8) && WZ_AT(wz_bound_summary_t, has_in_flight, 16)
     && WZ_AT(wz_bound_summary_t, in_flight, 24) && WZ_AT(wz_bound_summary_t, created_at, 32) && WZ_AT(wz_bound_summary_t, marks, 48)
     && WZ_AT(wz_bound_summary_t, last_outgoing, 64));
-WZ_LAYOUT(answer, sizeof(wz_answer_t) == 112 && WZ_AT(wz_answer_t, kind, 1) && WZ_AT(wz_answer_t, handle, 4) && WZ_AT(wz_answer_t, epoch, 8)
-    && WZ_AT(wz_answer_t, incarnation, 16) && WZ_AT(wz_answer_t, commit_no, 24) && WZ_AT(wz_answer_t, reason, 32) && WZ_AT(wz_answer_t, summary, 40));
+WZ_LAYOUT(answer, sizeof(wz_answer_t) == 128 && WZ_AT(wz_answer_t, kind, 1) && WZ_AT(wz_answer_t, handle, 4) && WZ_AT(wz_answer_t, epoch, 8)
+    && WZ_AT(wz_answer_t, incarnation, 16) && WZ_AT(wz_answer_t, commit_no, 24) && WZ_AT(wz_answer_t, reason, 32) && WZ_AT(wz_answer_t, summary, 40)
+    && WZ_AT(wz_answer_t, has_lowest, 112) && WZ_AT(wz_answer_t, lowest, 120));
 WZ_LAYOUT(store_answer, sizeof(wz_store_answer_t) == 16 && WZ_AT(wz_store_answer_t, value, 8));
 WZ_LAYOUT(listed, sizeof(wz_listed_t) == 24 && WZ_AT(wz_listed_t, length, 8) && WZ_AT(wz_listed_t, bytes, 16));
-WZ_LAYOUT(built, sizeof(wz_built_t) == 24 && WZ_AT(wz_built_t, place, 8) && WZ_AT(wz_built_t, at, 16));
+WZ_LAYOUT(built, sizeof(wz_built_t) == 32 && WZ_AT(wz_built_t, place, 8) && WZ_AT(wz_built_t, at, 16) && WZ_AT(wz_built_t, lowest, 24));
 WZ_LAYOUT(shown, sizeof(wz_shown_t) == 16 && WZ_AT(wz_shown_t, number, 8));
 WZ_LAYOUT(numbered, sizeof(wz_numbered_t) == 24 && WZ_AT(wz_numbered_t, millis, 8) && WZ_AT(wz_numbered_t, picos, 16));
 WZ_LAYOUT(answered, sizeof(wz_answered_t) == 16 && WZ_AT(wz_answered_t, flag, 1) && WZ_AT(wz_answered_t, session, 8));

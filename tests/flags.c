@@ -7,10 +7,10 @@
 
 struct counters { uint64_t epoch, connections; uint8_t promoted, checked, version2; };
 struct bound { uint8_t used; uint32_t handle; size_t place; uint64_t commit_no; size_t held_len; uint64_t held_bytes; };
-struct settings { uint32_t places, bytes, messages; uint64_t incarnation, max_lag; };
+struct settings { uint32_t places, bytes, messages; uint64_t incarnation, max_lag; uint8_t tells_lowest; };
 struct span { size_t at; uint32_t len; };
 struct summary { uint64_t next_outgoing, next_incoming; uint8_t has_in_flight; uint64_t in_flight; struct span created_at, marks; uint64_t last_outgoing; };
-struct answer { uint8_t refusal, kind; uint32_t handle; uint64_t epoch, incarnation, commit_no; uint8_t reason; struct summary summary; };
+struct answer { uint8_t refusal, kind; uint32_t handle; uint64_t epoch, incarnation, commit_no; uint8_t reason; struct summary summary; uint8_t has_lowest; uint64_t lowest; };
 
 #define LENT struct counters *, struct bound *, size_t, uint64_t *, size_t, uint8_t *, size_t
 extern struct answer make(LENT, struct settings);
@@ -22,7 +22,7 @@ extern struct answer promote(LENT, uint8_t *, size_t, uint64_t *, size_t, struct
 extern struct answer promote_unchecked(LENT, uint8_t *, size_t, uint64_t *, size_t, struct settings);
 
 enum { S = 4, C = 256, M = 8, H = 4, CALLS = 7, FLAGS = 3 + H };
-static const struct settings with = { S, C, M, 7, 0 };
+static const struct settings with = { S, C, M, 7, 0, 1 };
 
 /* All that is lent. */
 struct lent {
@@ -58,7 +58,7 @@ static uint8_t *flag(struct lent *l, int i) {
 static int same_answer(const struct answer *a, const struct answer *b) {
     const struct summary *m = &a->summary, *n = &b->summary;
     return a->refusal == b->refusal && a->kind == b->kind && a->handle == b->handle && a->epoch == b->epoch && a->incarnation == b->incarnation
-        && a->commit_no == b->commit_no && a->reason == b->reason && m->next_outgoing == n->next_outgoing && m->next_incoming == n->next_incoming
+        && a->commit_no == b->commit_no && a->reason == b->reason && a->has_lowest == b->has_lowest && a->lowest == b->lowest && m->next_outgoing == n->next_outgoing && m->next_incoming == n->next_incoming
         && m->has_in_flight == n->has_in_flight && m->in_flight == n->in_flight && m->created_at.at == n->created_at.at && m->created_at.len == n->created_at.len
         && m->marks.at == n->marks.at && m->marks.len == n->marks.len && m->last_outgoing == n->last_outgoing;
 }

@@ -23,7 +23,7 @@ static void holds(int is, int line, const char *words) {
 
 enum { S = 3, C = 1024, M = 16, H = 4, WORDS = 66 + S * (16 + 2 * M), BYTES = S * (224 + C), HOLDS_LEN = H * (C + 22 * M + 131), ENDS_LEN = H + 1 };
 static const wz_shape_t shape = { S, C, M };
-static const wz_settings_t settings = { { S, C, M }, 77, 5 };
+static const wz_settings_t settings = WZ_MADE_SETTINGS(S, C, M, 77, 5);
 struct copy {
     wz_replica_t counters;
     wz_bound_t row[H];
@@ -188,9 +188,10 @@ static void changes(void) {
     HOLDS(wz_store_open(STORE(a), shape, TEXT("FIX.4.2"), TEXT("S"), TEXT("T"), TEXT("")).value == 0);
     wz_store_answer_t second = wz_store_open(STORE(a), shape, TEXT("FIX.4.2"), TEXT("S"), TEXT("U"), TEXT("x"));
     HOLDS(second.refusal == 0 && second.value == 1 && a.words[0] == 2);
-    HOLDS(wz_store_record(STORE(a), shape, 1, TEXT("first")) == 0 && wz_store_record(STORE(a), shape, 2, TEXT("none")) == WZ_REFUSED_RULES_BROKEN);
+    HOLDS(wz_store_record(STORE(a), shape, 1, TEXT("first")).refusal == 0 && wz_store_record(STORE(a), shape, 2, TEXT("none")).refusal == WZ_REFUSED_RULES_BROKEN);
     HOLDS(wz_store_record_none(STORE(a), shape, 1, 1) == WZ_REFUSED_NUMBER_NOT_RECORDED && wz_store_record_none(STORE(a), shape, 1, 3) == 0);
-    HOLDS(wz_store_record(STORE(a), shape, 1, TEXT("fourth")) == 0 && wz_store_count(STORE(a), shape, 1).value == 2);
+    HOLDS(wz_store_record(STORE(a), shape, 1, TEXT("fourth")).refusal == 0 && wz_store_count(STORE(a), shape, 1).value == 2);
+    HOLDS(wz_lowest(STORE(a), S, C, M, 1).refusal == 0 && wz_lowest(STORE(a), S, C, M, 1).value == 1 && wz_lowest(STORE(a), S, C, M, 2).refusal == WZ_REFUSED_RULES_BROKEN);
     HOLDS(wz_store_set_next_incoming(STORE(a), shape, 1, 12) == 0 && wz_store_set_in_flight(STORE(a), shape, 1, 11) == 0);
     HOLDS(wz_store_set_next_incoming_in_flight(STORE(a), shape, 1, 13, 12) == 0);
     HOLDS(wz_store_set_created_at(STORE(a), shape, 1, TEXT("today")) == WZ_REFUSED_BAD_TIMESTAMP && wz_store_set_created_at(STORE(a), shape, 1, TEXT("20261116-12:00:00")) == 0);
@@ -222,13 +223,45 @@ static void changes(void) {
 }
 
 /* The fullest session that there can be needs just the bytes that the macros name, and a byte less is refused. */
+/* Logs of any content, 6 entries in 20 bytes, next outgoing number 100: numbers and lengths from the newest entry back, where the head stands, and the lowest number,
+   by the rule of docs/AREAS.md done by hand: entries count while their numbers fall from below 100 to 1 and their lengths are 20 in all. */
+static const struct { uint64_t head, entries[6][2], lowest; } logs[] = {
+    { 3, { { 9, 1 }, { 8, 1 }, { 7, 1 }, { 6, 1 }, { 5, 1 }, { 4, 1 } }, 4 },     /* each counts */
+    { 3, { { 9, 1 }, { 8, 1 }, { 7, 1 }, { 0, 1 }, { 5, 1 }, { 4, 1 } }, 7 },     /* a 0 in the middle */
+    { 3, { { 0, 1 }, { 8, 1 }, { 7, 1 }, { 6, 1 }, { 5, 1 }, { 4, 1 } }, 0 },     /* a 0 in front */
+    { 0, { { 9, 1 }, { 8, 1 }, { 8, 1 }, { 7, 1 }, { 6, 1 }, { 5, 1 } }, 8 },     /* equal numbers */
+    { 5, { { 9, 1 }, { 8, 1 }, { 12, 1 }, { 7, 1 }, { 6, 1 }, { 5, 1 } }, 8 },    /* one above the newer one */
+    { 1, { { 100, 1 }, { 8, 1 }, { 7, 1 }, { 6, 1 }, { 5, 1 }, { 4, 1 } }, 0 },   /* the next number itself */
+    { 2, { { 99, 20 }, { 8, 1 }, { 7, 1 }, { 6, 1 }, { 5, 1 }, { 4, 1 } }, 99 },  /* the first has all bytes */
+    { 2, { { 9, 1 }, { 8, 21 }, { 7, 1 }, { 6, 1 }, { 5, 1 }, { 4, 1 } }, 9 },    /* a length past C */
+    { 4, { { 9, 10 }, { 8, 10 }, { 7, 1 }, { 6, 1 }, { 5, 1 }, { 4, 1 } }, 8 },   /* lengths past C together */
+    { 4, { { 9, UINT64_MAX }, { 8, 1 }, { 7, 1 }, { 6, 1 }, { 5, 1 }, { 4, 1 } }, 0 },
+    { 6, { { 9, 0 }, { 8, 0 }, { 7, 0 }, { 3, 0 }, { 2, 0 }, { 1, 20 } }, 1 },    /* a head past the slots is 0; messages without a byte */
+    { UINT64_MAX, { { UINT64_MAX, 0 }, { 8, 0 }, { 7, 0 }, { 3, 0 }, { 2, 0 }, { 1, 0 } }, 0 },
+};
+
+static void foreign_logs(void) {
+    for (size_t i = 0; i < sizeof logs / sizeof *logs; i++) {
+        uint64_t words[WZ_WORDS(1, 6)] = { 1 }, *place = words + 66;
+        uint8_t bytes[WZ_BYTES(1, 20)] = { 0 };
+        place[0] = 100, place[14] = logs[i].head, place[15] = 7;
+        size_t slot = logs[i].head < 6 ? (size_t)logs[i].head : 0;
+        for (size_t j = 0; j < 6; j++) {
+            slot = slot ? slot - 1 : 5;
+            place[16 + 2 * slot] = logs[i].entries[j][0], place[17 + 2 * slot] = logs[i].entries[j][1];
+        }
+        wz_store_answer_t told = wz_lowest(words, WZ_WORDS(1, 6), bytes, WZ_BYTES(1, 20), 1, 20, 6, 0);
+        HOLDS(told.refusal == 0 && told.value == logs[i].lowest);
+    }
+}
+
 static void lengths(void) {
     static const char key[] = "0123456789abcdef0123456789abcdef", marks[] = "0123456789abcdef0123456789abcdef0123456789abcdef0123456789abcdef";
     uint64_t sending[WZ_SENDING] = { 0 };
     uint8_t message[C / M] = { 0 };
     HOLDS(wz_store_make(STORE(a), shape) == 0 && wz_store_open(STORE(a), shape, TEXT(key), TEXT(key), TEXT(key), TEXT(key)).refusal == 0);
     for (uint64_t i = 1; i <= M; i++)
-        HOLDS(wz_store_record_none(STORE(a), shape, 0, 2 * i - 1) == 0 && wz_store_record(STORE(a), shape, 0, message, C / M) == 0);
+        HOLDS(wz_store_record_none(STORE(a), shape, 0, 2 * i - 1) == 0 && wz_store_record(STORE(a), shape, 0, message, C / M).refusal == 0);
     HOLDS(wz_store_record_none(STORE(a), shape, 0, 2 * M + 1) == 0 && wz_store_count(STORE(a), shape, 0).value == M);
     HOLDS(wz_store_set_next_incoming_in_flight(STORE(a), shape, 0, 5, 4) == 0 && wz_store_set_created_at(STORE(a), shape, 0, TEXT("20261116-12:00:00.123456789012")) == 0);
     HOLDS(wz_store_set_marks(STORE(a), shape, 0, TEXT(marks)) == 0);
@@ -259,7 +292,7 @@ static void lines(void) {
     static uint8_t bytes[BYTES2], area[WZ_FRAME(C2, M2)], message[16385];
     wz_shape_t one = { 1, C2, M2 };
     HOLDS(wz_store_make(words, WORDS2, bytes, BYTES2, one) == 0 && wz_store_open(words, WORDS2, bytes, BYTES2, one, TEXT("FIX.4.2"), TEXT("S"), TEXT("T"), TEXT("")).refusal == 0);
-    HOLDS(wz_store_record(words, WORDS2, bytes, BYTES2, one, 0, message, 16385) == 0 && wz_store_record(words, WORDS2, bytes, BYTES2, one, 0, message, 1) == 0);
+    HOLDS(wz_store_record(words, WORDS2, bytes, BYTES2, one, 0, message, 16385).refusal == 0 && wz_store_record(words, WORDS2, bytes, BYTES2, one, 0, message, 1).refusal == 0);
     for (uint64_t line = WZ_LINE_HEAD_OFFICE; line <= WZ_LINE_BRANCH; line++) {
         uint64_t sending[WZ_SENDING] = { UINT64_MAX - 1, 0, 0, 0, line }, frames = 0, code;
         code = wz_send(words, WORDS2, bytes, BYTES2, sending, WZ_SENDING, area, sizeof area, 1, C2, M2, 0, 9, 5, 1);
@@ -416,6 +449,7 @@ int main(void) {
     standby();
     whole();
     changes();
+    foreign_logs();
     lengths();
     lines();
     versions();

@@ -90,7 +90,7 @@ static void change(void) {
         s->next += 3;
         break;
     default:
-        if (wz_store_record(STORE, shape, place, text, len)) fail("a message is recorded");
+        if (wz_store_record(STORE, shape, place, text, len).refusal) fail("a message is recorded");
         record(s, text, len);
     }
 }

@@ -13,6 +13,8 @@ struct Built {
     refusal: u8,
     place: usize,
     at: usize,
+    #[allow(dead_code)]
+    lowest: u64,
 }
 
 unsafe extern "C" {
@@ -180,8 +182,8 @@ fn main() {
     println!("|-|-|-|-|-|-|");
     for (value, fields) in [(14, 1), (10, 14), (10, 244), (3_900, 1)] {
         let (file, count) = filled(value, fields);
-        assert_eq!(store.import(&file), Built { refusal: 0, place: 0, at: 0 });
         assert_eq!(session.import(&file), Ok(()));
+        assert_eq!(store.import(&file), Built { refusal: 0, place: 0, at: 0, lowest: session.entries[0].0 });
         assert_eq!(store.words[66], count as u64 + 1);
         let mut copy = vec![0u8; file.len()];
         let (mut ours, mut theirs, mut copied) = (f64::MAX, f64::MAX, f64::MAX);

@@ -39,7 +39,7 @@ extern "C" {
     ) -> StoreAnswer;
     fn store_record(
         w: *mut u64, wl: usize, b: *mut u8, bl: usize, shape: Shape, i: usize, text: *const u8, textl: usize,
-    ) -> u8;
+    ) -> StoreAnswer;
     #[allow(clippy::too_many_arguments)]
     fn wz_resend(
         w: *const u64, wl: usize, b: *const u8, bl: usize, ranges: *const u64, rl: usize, entries: *mut u64, el: usize,
@@ -72,7 +72,7 @@ impl Store {
             let opened = store_open(w, words, b, bytes, shape, k0, l0, k1, l1, k2, l2, k3, l3);
             assert_eq!((opened.refusal, opened.value), (0, 0));
             for _ in 0..MESSAGES + 1000 {
-                assert_eq!(store_record(w, words, b, bytes, shape, 0, [7u8; LENGTH].as_ptr(), LENGTH), 0);
+                assert_eq!(store_record(w, words, b, bytes, shape, 0, [7u8; LENGTH].as_ptr(), LENGTH).refusal, 0);
             }
         }
         it

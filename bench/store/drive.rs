@@ -38,7 +38,7 @@ extern "C" {
     fn store_record(
         w: *mut u64, wl: usize, b: *mut u8, bl: usize, shape: Shape,
         i: usize, text: *const u8, textl: usize,
-    ) -> u8;
+    ) -> StoreAnswer;
     fn store_record_none(
         w: *mut u64, wl: usize, b: *const u8, bl: usize, shape: Shape, i: usize, seq: u64,
     ) -> u8;
@@ -99,7 +99,7 @@ impl Ours {
     }
 
     #[inline]
-    fn record(&mut self, i: usize, text: &[u8]) -> u8 {
+    fn record(&mut self, i: usize, text: &[u8]) -> StoreAnswer {
         unsafe {
             store_record(
                 self.words.as_mut_ptr(), self.words.len(), self.bytes.as_mut_ptr(), self.bytes.len(), self.shape,
@@ -310,8 +310,9 @@ fn compare(rounds: u64) {
                 _ => {
                     let len = if r.below(16) == 0 { u64::from(cap) + r.below(2) } else { r.below(24) * r.below(2) };
                     let text: Vec<u8> = (0..len).map(|_| r.below(256) as u8).collect();
-                    assert_eq!(ours.record(i, &text), 0);
+                    let told = ours.record(i, &text);
                     theirs[i].record(&text);
+                    assert_eq!(told, StoreAnswer { refusal: 0, value: theirs[i].messages.front().map_or(0, |(number, _)| *number) });
                 }
             }
             for (k, q) in theirs.iter().enumerate() {
@@ -338,7 +339,7 @@ fn compare(rounds: u64) {
             *b = r.below(256) as u8;
         }
         let (next, count) = (ours.next(1), ours.count(1));
-        let code = ours.record(0, b"abc");
+        let code = ours.record(0, b"abc").refusal;
         assert!(code == 0 || (code == NUMBER_NOT_RECORDED && ours.next(0).value() == u64::MAX));
         assert_eq!((next, count), (ours.next(1), ours.count(1)));
         if code == 0 && cap >= 3 && max > 0 {
@@ -357,7 +358,7 @@ fn refusals() {
     let mut ours = Ours::new(2, 20, 2);
     assert_eq!(ours.stamp(0, b"20260101-00:00:00"), 0);
     assert_eq!(ours.marks(0, b"PossDup"), 0);
-    assert_eq!(ours.record(0, b"abc"), 0);
+    assert_eq!(ours.record(0, b"abc"), StoreAnswer { refusal: 0, value: 1 });
     let before = (ours.words.clone(), ours.bytes.clone());
     assert_eq!(ours.open("T1"), StoreAnswer { refusal: 0, value: 1 });
     assert_eq!(ours.open(""), no(5));
@@ -370,7 +371,7 @@ fn refusals() {
         let i = if broken { 0 } else { 2 };
         ours.words[0] += u64::from(broken);
         assert_eq!((ours.next(i), ours.count(i), ours.last(i, 5)), (no(25), no(25), no(25)));
-        assert_eq!((ours.record(i, b"abc"), ours.bare(i, 0), ours.reset(i), ours.take_over(i, 1)), (25, 25, 25, 25));
+        assert_eq!((ours.record(i, b"abc"), ours.bare(i, 0), ours.reset(i), ours.take_over(i, 1)), (no(25), 25, 25, 25));
         assert_eq!((ours.stamp(i, b"today"), ours.marks(i, &[b'A'; 65])), (25, 25));
         if broken {
             assert_eq!(ours.open(""), no(25));

@@ -1,7 +1,7 @@
 //! The functions of include/wizhdulet.h that the program calls, and their records.
 
 /// The version of the header that these declarations are of.
-pub const VERSION: u32 = 6;
+pub const VERSION: u32 = 65_536;
 
 #[repr(C)]
 #[derive(Clone, Copy, Default)]
@@ -52,6 +52,7 @@ pub struct Settings {
     pub shape: Shape,
     pub incarnation: u64,
     pub max_lag: u64,
+    pub tells_lowest: u8,
 }
 
 #[repr(C)]
@@ -84,6 +85,8 @@ pub struct Answer {
     pub commit_no: u64,
     pub reason: u8,
     pub summary: BoundSummary,
+    pub has_lowest: u8,
+    pub lowest: u64,
 }
 
 #[repr(C)]
@@ -100,6 +103,7 @@ pub struct Built {
     pub refusal: u8,
     pub place: usize,
     pub at: usize,
+    pub lowest: u64,
 }
 
 #[repr(C)]

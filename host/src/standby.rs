@@ -145,7 +145,7 @@ impl Standby {
     pub fn new(limits: &Limits) -> Result<Standby, Failure> {
         let (s, c, m) = (limits.sessions as usize, limits.bytes as usize, limits.messages as usize);
         let shape = Shape { places: limits.sessions, bytes: limits.bytes, messages: limits.messages };
-        let settings = Settings { shape, incarnation: limits.incarnation.unwrap_or(1), max_lag: limits.lag };
+        let settings = Settings { shape, incarnation: limits.incarnation.unwrap_or(1), max_lag: limits.lag, tells_lowest: 1 };
         let fits = |refusal| match refusal {
             0 => Ok(()),
             _ => Err(Failure::usage(format!("the limits don't fit: R {refusal}"))),

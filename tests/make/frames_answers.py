@@ -4,7 +4,9 @@
 `answers` gets every refusal and every Nack that the program can show, on two handles in turn, with a restart and a stale active. `commits` has 80
 commits on four handles in turn, with a session that outgrows C and one that outgrows M, a stale active among them, a restart, and a session that goes to
 another handle in the full row while the first holds changes. `versions` has stamps of every count of digits in version 1, in version 2 and in version 1
-again, with what leaves the version between them, and 32.
+again, with what leaves the version between them, and 32. `lowest` is for the lowest message on hand: past C, past M, a message longer than C, M messages and
+one more, Reset, bare Records alone, an empty Commit, Wholes and a LastWhole, Diverged, refusals, a Checked, bad lines, two sessions in turn, and a last line
+without a line feed.
 
 10, 17 and 21 to 25 can't be shown there: the standby isn't promoted, its lines are too short to hold more than 4 GiB, and its four places are enough
 where each of four sessions has one handle (21; document 02, U4).
@@ -119,7 +121,26 @@ versions = [
     hello(3), bind(1, 3, b"A"), bind(2, 3, b"B"), bind(1, 2, b"A"), *stamps(1, 3, 1),
 ]
 
-for name, frames in (("answers", answers), ("commits", commits), ("versions", versions)):
+lowest = [
+    hello(1), bind(1, 1, b"A"), bind(2, 1, b"B"),
+    # an empty Commit; bare Records alone; a first message; another session in turn; M messages and one more
+    batch(1, 1, 1, COMMIT, []), batch(1, 1, 2, COMMIT, [record_none(4)]), batch(1, 1, 3, COMMIT, [record(5, b"five")]), batch(2, 1, 1, COMMIT, [record(1, b"1")]),
+    batch(1, 1, 4, COMMIT, [record(seq, b"m") for seq in range(6, 69)]), batch(1, 1, 5, COMMIT, [record(69, b"m")]), batch(2, 1, 2, COMMIT, [record(2, b"2")]),
+    # past C; longer than C, which leaves the others; just C, which leaves none of them
+    batch(1, 1, 6, COMMIT, [record(70, b"c" * 4000)]), batch(1, 1, 7, COMMIT, [record(71, b"c" * 2000)]), batch(1, 1, 8, COMMIT, [record(72, b"c" * 4097)]),
+    batch(1, 1, 9, COMMIT, [record(73, b"c" * 4096)]),
+    # Diverged, StaleEpoch, 13, 14, 15 to 18 and 19 hand nothing up, nor do a Checked and Wholes
+    batch(1, 1, 11, COMMIT, []), batch(1, 1, 10, COMMIT, [record(9, b"")]), batch(1, 0, 10, COMMIT, []), batch(1, 1, 10, COMMIT, [], [app_record(1, b"x")]), batch(9, 1, 1, COMMIT, []),
+    batch(2, 1, 3, WHOLE, [set_next_incoming(1)]), checked(1, 1, 7), checked(2, 1, 7), ack(1, 1),
+    batch(2, 1, 3, WHOLE, [RESET, record_none(6)]), batch(2, 1, 4, COMMIT, []), batch(2, 1, 4, WHOLE, [record(7, b"m" * 6000)]), batch(2, 1, 4, WHOLE, [record(7, b"seven"), record(8, b"8")]),
+    batch(2, 1, 5, LAST_WHOLE, [set_marks(b"")]), batch(1, 1, 12, COMMIT, [RESET]), bind(1, 1, b"A"), batch(1, 1, 1, COMMIT, [RESET]), batch(2, 1, 6, COMMIT, [record(9, b"9")]),
+    # nothing is stored again, by a LastWhole; a session without messages
+    batch(2, 1, 7, LAST_WHOLE, [RESET]), batch(2, 1, 8, COMMIT, [set_next_incoming(3)]), batch(2, 1, 9, COMMIT, [record(1, b"one")]),
+]
+
+for name, frames in (("answers", answers), ("commits", commits), ("versions", versions), ("lowest", lowest)):
     text = joined(frame.hex() for frame in frames)
+    if name == "lowest":
+        text = joined(["", "0", "R 1", "0" * 16386]) + text.rstrip("\n")
     write(f"tests/frames/{name}.in", text)
     write(f"tests/frames/{name}.out", rust("rust-frames-program", text))

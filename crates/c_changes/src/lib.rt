@@ -1,4 +1,4 @@
-// The eight changes of a stored session for programs in C or Rust: 0, or a refusal. Areas that break the rules, and a place that holds no session,
+// The eight changes of a stored session for programs in C or Rust: 0, or a refusal; recording a message also answers the lowest number still stored. Areas that break the rules, and a place that holds no session,
 // are turned down before all else (25), and nothing is asked of a caller. C lends the areas apart, and hands the shape and the place beside them.
 // `c_changes_c` exports these as they stand, so their types are C's.
 #![tactic(auto)]
@@ -9,8 +9,10 @@ ghost use Rattle.model_frame.specs.Frame.{set_incoming, set_incoming_in_flight, 
 ghost use Rattle.model_standby.specs.Store.{Stored, changed};
 ghost use Rattle.c_store.specs.Total.{session_in, why_no_record, why_no_bare_record, why_no_stamp, why_no_marks, ChangeIs};
 ghost use Rattle.c_changes.specs.Calls.{TakesWords, DoesWords};
+ghost use Rattle.c_changes.specs.Recording.{RecordIs};
 
 use base_refusals::Refusal;
+use c_store::StoreAnswer;
 use store_areas::{Shape, View};
 
 // Changes the words of a place that is in use.
@@ -88,13 +90,7 @@ pub fn store_reset(words: &mut [u64], bytes: &[u8], shape: Shape, place: usize) 
 // spot would leave all four lines of it.
 
 // A Record of the next outgoing number with this message; 40 if no number is left.
-pub fn store_record(
-    words: &mut [u64],
-    bytes: &mut [u8],
-    shape: Shape,
-    place: usize,
-    text: &[u8],
-) -> u8
+fn record(words: &mut [u64], bytes: &mut [u8], shape: Shape, place: usize, text: &[u8]) -> u8
     ensures { ChangeIs shape place (why_no_record (session_in shape words.old bytes.old place).next_out) (changed shape.bytes shape.messages (record_msg (session_in shape words.old bytes.old place).next_out text.now ∷ [])) words.old words.new bytes.old bytes.new result }
 {
     let spot = match View::with_place(shape, words, bytes, place) {
@@ -114,6 +110,26 @@ pub fn store_record(
         text,
     );
     0
+}
+
+// A Record of the next outgoing number with this message, and the lowest number still stored then, 0 if none is; 40 if no number is left.
+pub fn store_record(
+    words: &mut [u64],
+    bytes: &mut [u8],
+    shape: Shape,
+    place: usize,
+    text: &[u8],
+) -> StoreAnswer
+    ensures { RecordIs shape place text.now words.old words.new bytes.old bytes.new result }
+{
+    let refusal = record(words, bytes, shape, place, text);
+    if refusal != 0 {
+        return StoreAnswer { refusal, value: 0 };
+    }
+    StoreAnswer {
+        refusal: 0,
+        value: store_lowest::lowest(words, bytes, shape, place).unwrap_or(0),
+    }
 }
 
 // A Record without message; 40 for a number below the next outgoing one or 2^64 - 1.

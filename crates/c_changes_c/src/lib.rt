@@ -2,10 +2,12 @@
 #![tactic(auto)]
 
 ghost use Rattle.std.specs.Prelude.{[], ◌∷◌};
-ghost use Rattle.model_frame.specs.Frame.{set_incoming, set_incoming_in_flight, set_in_flight, record_msg, record_bare, reset, set_created_at, set_marks};
+ghost use Rattle.model_frame.specs.Frame.{set_incoming, set_incoming_in_flight, set_in_flight, record_bare, reset, set_created_at, set_marks};
 ghost use Rattle.model_standby.specs.Store.{changed};
-ghost use Rattle.c_store.specs.Total.{session_in, why_no_record, why_no_bare_record, why_no_stamp, why_no_marks, ChangeIs};
+ghost use Rattle.c_store.specs.Total.{session_in, why_no_bare_record, why_no_stamp, why_no_marks, ChangeIs};
+ghost use Rattle.c_changes.specs.Recording.{RecordIs};
 
+use c_store::StoreAnswer;
 use store_areas::Shape;
 
 #[unsafe(no_mangle)]
@@ -48,7 +50,7 @@ pub extern "C" fn store_set_in_flight(
     c_changes::store_set_in_flight(words, bytes, shape, place, seq)
 }
 
-// A Record of the next outgoing number with this message; 40 if no number is left.
+// A Record of the next outgoing number with this message, and the lowest number still stored then, 0 if none is; 40 if no number is left.
 #[unsafe(no_mangle)]
 pub extern "C" fn store_record(
     words: &mut [u64],
@@ -56,8 +58,8 @@ pub extern "C" fn store_record(
     shape: Shape,
     place: usize,
     text: &[u8],
-) -> u8
-    ensures { ChangeIs shape place (why_no_record (session_in shape words.old bytes.old place).next_out) (changed shape.bytes shape.messages (record_msg (session_in shape words.old bytes.old place).next_out text.now ∷ [])) words.old words.new bytes.old bytes.new result }
+) -> StoreAnswer
+    ensures { RecordIs shape place text.now words.old words.new bytes.old bytes.new result }
 {
     c_changes::store_record(words, bytes, shape, place, text)
 }

@@ -9,13 +9,15 @@ ghost use Rattle.c_import.specs.Answering.{Imports};
 use store_areas::Shape;
 use store_place::Key;
 
-// The answer in the numbers that C reads: 0 and the new session's place; or the refusal, with the offset of the first faulty message for 28, 29 and 30.
+// The answer in the numbers that C reads: 0, the new session's place, and the lowest number stored of it, 0 for none; or the refusal, with the offset of the
+// first faulty message for 28, 29 and 30.
 #[repr(C)]
 #[derive(Clone, Copy)]
 pub struct Built {
     pub refusal: u8,
     pub place: usize,
     pub at: usize,
+    pub lowest: u64,
 }
 
 // Builds the session of a key from a file of sent messages, as `store_import::import` does.
@@ -49,11 +51,13 @@ pub fn wz_import(
             refusal: 0,
             place,
             at: 0,
+            lowest: store_lowest::lowest(words, bytes, shape, place).unwrap_or(0),
         },
         Err(f) => Built {
             refusal: f.refusal.number(),
             place: 0,
             at: f.at,
+            lowest: 0,
         },
     }
 }

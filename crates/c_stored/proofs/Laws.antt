@@ -18,7 +18,12 @@ use Rattle.store_areas.specs.declared.Shape.{Shape}
 use Rattle.store_areas.specs.Areas.{in_use, place_at}
 use Rattle.store_sessions.specs.declared.Message.{Message}
 use Rattle.c_code.specs.Codes.{done_code, refusal_code}
-use Rattle.c_stored.specs.Stored.{message_of, first_is, found_text, TellsText, TellsMessage}
+use Rattle.base_refusals.specs.declared.Refusal as Refused
+use Rattle.store_sessions.specs.Answers.{Answered}
+use Rattle.store_lowest.specs.Lowest.{lowest_is}
+use Rattle.c_store.specs.declared.StoreAnswer.{StoreAnswer}
+use Rattle.c_store.specs.Total.{answered}
+use Rattle.c_stored.specs.Stored.{lowest_answer, message_of, first_is, found_text, TellsText, TellsMessage}
 
 -- ---- the message with a number
 
@@ -71,3 +76,12 @@ module _ (s : Shape) (w b : List ℕ) (i n : ℕ) (o : prelude.Option Message) (
 
   pub absent : {out : List ℕ} {r : ℕ} → o ≡ prelude.None → r ≡ 0 → TellsMessage s w b i n out out r
   absent e z = record { answer = rw (used, is_found, e) z; area = rw (used, is_found, e) refl }
+
+-- ---- the lowest number
+
+pub lowest_told : {x : Answered ℕ} (o : prelude.Result ℕ Refused.Refusal) {a : StoreAnswer} → lowest_is o ≡ x → a ≡ answered o → a ≡ lowest_answer x
+lowest_told o e f = f ∙ go o ∙ ap lowest_answer e
+  where
+    go : (o : prelude.Result ℕ Refused.Refusal) → answered o ≡ lowest_answer (lowest_is o)
+    go (prelude.Ok n) = refl
+    go (prelude.Err r) = refl

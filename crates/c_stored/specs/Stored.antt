@@ -1,4 +1,4 @@
--- The place of a key and a message by its number, as one number each: 0 where nothing is stored under it. Assumes nothing.
+-- The place of a key and a message by its number, as one number each: 0 where nothing is stored under it; the lowest number. Assumes nothing.
 use Rattle.std.specs.Prelude as prelude
 use Rattle.std.specs.Prelude.{◌≡◌, ℕ, cond, max, List, [], ◌∷◌, ◌++◌, length, eqb, leb, Some, None}
 use Rattle.std.proofs.Math.Option.{Option, none, some}
@@ -11,6 +11,8 @@ use Rattle.store_areas.specs.declared.Shape.{Shape}
 use Rattle.store_areas.specs.Areas.{in_use, place_at}
 use Rattle.store_sessions.specs.Answers.{Answered, gives, refuses}
 use Rattle.store_sessions.specs.declared.Message.{Message}
+use Rattle.c_store.specs.declared.StoreAnswer.{StoreAnswer}
+use Rattle.c_store.specs.Total.{with_value, refused}
 use Rattle.c_code.specs.Codes.{refusal_code, done_code}
 
 -- nothing is stored under this key, or under this number
@@ -50,6 +52,12 @@ message_area (some text) out = text_area text out
 pub record TellsMessage (s : Shape) (w b : List ℕ) (i n : ℕ) (out out' : List ℕ) (r : ℕ) : Type 0 where
   pub answer : r ≡ cond (in_use s w b i) (message_code (message_of n (place_at s w b i).stored.session.messages) out) (refusal_code Refusal.rules_broken 0)
   pub area : out' ≡ cond (in_use s w b i) (message_area (message_of n (place_at s w b i).stored.session.messages) out) out
+
+-- ---- the lowest number still stored: 0 and the number, or the refusal
+
+abbrev pub lowest_answer : Answered ℕ → StoreAnswer
+lowest_answer (gives n) = with_value n
+lowest_answer (refuses n) = refused n
 
 -- ---- of functions within
 

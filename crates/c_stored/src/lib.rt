@@ -1,4 +1,4 @@
-// What a store holds, for programs in C or Rust: the place of a key, and one stored message. Nothing is asked of a caller.
+// What a store holds, for programs in C or Rust: the place of a key, one stored message, and the lowest number still stored. Nothing is asked of a caller.
 // C hands the four texts of a key and the three numbers of a shape apart.
 #![tactic(auto)]
 
@@ -8,10 +8,12 @@ ghost use Rattle.frame_reader.specs.Answers.{span_of};
 ghost use Rattle.store_areas.specs.Areas.{place_at, used_of};
 ghost use Rattle.store_place.specs.Place.{key_from};
 ghost use Rattle.store_sessions.specs.Answers.{sought_in};
-ghost use Rattle.c_stored.specs.Stored.{place_code, FoundIs, TellsText, TellsMessage};
+ghost use Rattle.c_stored.specs.Stored.{place_code, FoundIs, TellsText, TellsMessage, lowest_answer};
+ghost use Rattle.store_lowest.specs.Lowest.{lowest_in};
 
 use base_refusals::Refusal;
 use c_code::{done, refusal};
+use c_store::StoreAnswer;
 use frame_reader::Span;
 use store_areas::{Shape, View};
 use store_place::Key;
@@ -111,4 +113,26 @@ pub extern "C" fn wz_message(
         Some(message) => put_parts(bytes, message.first, message.second, out),
         None => NOT_STORED,
     }
+}
+
+// ---- the lowest number
+
+// The lowest number still stored of the session at a place, 0 if none is.
+#[unsafe(no_mangle)]
+pub extern "C" fn wz_lowest(
+    words: &[u64],
+    bytes: &[u8],
+    sessions: u32,
+    c: u32,
+    m: u32,
+    place: usize,
+) -> StoreAnswer
+    ensures { result ≡ lowest_answer (lowest_in (record { places = sessions; bytes = c; messages = m }) words.now bytes.now place) }
+{
+    let shape = Shape {
+        places: sessions,
+        bytes: c,
+        messages: m,
+    };
+    StoreAnswer::from(store_lowest::lowest(words, bytes, shape, place))
 }

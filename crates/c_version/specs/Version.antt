@@ -2,10 +2,10 @@
 use Rattle.std.specs.Prelude.{ℕ, ◌+◌, ◌*◌}
 
 abbrev pub major : ℕ
-major = 0
+major = 1
 
 abbrev pub minor : ℕ
-minor = 6
+minor = 0
 
 -- both as one number
 abbrev pub version : ℕ

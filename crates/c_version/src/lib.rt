@@ -4,10 +4,10 @@
 ghost use Rattle.std.specs.Prelude.{◌≡◌};
 ghost use Rattle.c_version.specs.Version.{version};
 
-// Before 1.0 the minor is raised with every record, signature and code that changes; from 1.0 on the major is, and the minor with what is added.
-const MAJOR: u32 = 0;
+// The major is raised with every record, signature and code that changes, the minor with what is added.
+const MAJOR: u32 = 1;
 
-const MINOR: u32 = 6;
+const MINOR: u32 = 0;
 
 #[unsafe(no_mangle)]
 pub extern "C" fn wz_version() -> u32

@@ -39,7 +39,8 @@ use Rattle.frames_reply.specs.Texts.{outcome_text, answer_text, record_text}
 use Rattle.frames_reply.proofs.Laws.{exact_text}
 use Rattle.standby_step.specs.Calls.{room_all, standby_of, allowed_all, Called}
 use Rattle.model_lines.specs.Program.{frames_settings, line_text, spoken, on_bytes, line_step}
-use Rattle.frames_line.specs.Answering.{no_ends, the_settings, Heard, unread, called, AnswersLine}
+use Rattle.standby_state.specs.Answers.{plain}
+use Rattle.frames_line.specs.Answering.{no_ends, the_settings, HearsCall, Hears, Heard, unread, called, AnswersLine}
 
 -- ---- a line
 
@@ -107,18 +108,34 @@ module _ (l : List ℕ) (c : Replica) (row : List Bound) (w b h out : List ℕ) 
   answers : {c' : Replica} {row' : List Bound} {w' b' h' out' t : List ℕ} {n : ℕ} → Heard l c c' row row' w w' b b' h h' t → Puts t out out' n → AnswersLine l c c' row row' w w' b b' h h' out out' n
   answers {t = t} {n = n} k p = record { text = t; heard = k; puts = p; is = heard_is _ (put_text p) k }
 
-  pub bad_line : {buf out' : List ℕ} {r : std.Option ℕ} {n : ℕ} → ReadsLine (line_bytes l) buf r → r ≡ None → Puts (refusal_text 26) out out' n → AnswersLine l c c row row w w b b h h out out' n
-  bad_line {buf} g e p = answers (unread (sym g.bytes ∙ ap (line_read buf) e) refl refl refl refl refl) p
+  pub bad_line : {c' : Replica} {row' : List Bound} {w' b' h' out' : List ℕ} {o : std.Option the_code.Answer} {n : ℕ} → Hears l c c' row row' w w' b b' h h' o → o ≡ None → Puts (refusal_text 26) out out' n → AnswersLine l c c' row row' w w' b b' h h' out out' n
+  bad_line {c'} {row'} {w'} {b'} {h'} g e p =
+      let q : Hears l c c' row row' w w' b b' h h' None = subst (Hears l c c' row row' w w' b b' h h') e g in
+      answers (unread q.0 q.1 q.2 q.3 q.4 q.5) p
 
-  pub some_line : {buf : List ℕ} {r : std.Option ℕ} (m : ℕ) → Numbers c w b → ReadsLine (line_bytes l) buf r → ((i : ℕ) → get_or buf i 0 < 256) → r ≡ Some m → {c' : Replica} {row' : List Bound} {w' b' h' ends' out' : List ℕ} {s : Settings} {a : the_code.Answer} {n k : ℕ} → answer_bytes ≤ k → s ≡ the_settings → length ends' ≡ 0 → Called s (on_frame (take (m - 0) (drop 0 buf))) c c' row row' w w' b b' (no_ends h) (hold_areas h' ends') a → Puts (record_text (version_of c'.version2) k b' a) out out' n → AnswersLine l c c' row row' w w' b b' h h' out out' n
-  some_line {buf} m num g ok e {c'} {row'} {w'} {b'} {h'} {ends'} {out' = out'} {s} {a = a} {n = n} {k = room} big es none k p =
-      let cut : m - 0 ≡ m = omega arith in
-      let call : Called the_settings (on_frame (take m buf)) c c' row row' w w' b b' (no_ends h) (no_ends h') a =
-      subst (λ (x : ℕ). Called the_settings (on_frame (take x buf)) c c' row row' w w' b b' (no_ends h) (no_ends h') a) cut
-      (subst (λ (x : Settings). Called x (on_frame (take (m - 0) buf)) c c' row row' w w' b b' (no_ends h) (no_ends h') a) es
-      (subst (λ (x : List ℕ). Called s (on_frame (take (m - 0) buf)) c c' row row' w w' b b' (no_ends h) (hold_areas h' x) a) (no_words ends' none) k)) in
-      let t : Told (version_of c'.version2) (the-answers.answer_of b' a) = told (take m buf) num (bytes_take m buf (are_bytes buf ok)) call in
-      answers (called (take m buf) a (sym g.bytes ∙ ap (line_read buf) e) call) (subst (λ (x : List ℕ). Puts x out out' n) (exact_text (version_of c'.version2) room b' a call.exact ∙ text_is (version_of c'.version2) (the-answers.answer_of b' a) t big) p)
+  pub some_line : {c' : Replica} {row' : List Bound} {w' b' h' out' : List ℕ} {o : std.Option the_code.Answer} {a : the_code.Answer} {n room : ℕ} → Numbers c w b → Hears l c c' row row' w w' b b' h h' o → o ≡ Some a → answer_bytes ≤ room → Puts (record_text (version_of c'.version2) room b' a) out out' n → AnswersLine l c c' row row' w w' b b' h h' out out' n
+  some_line {c'} {row'} {w'} {b'} {h'} {out'} {a = a} {n = n} {room = room} num g e big p =
+      let k : HearsCall l c c' row row' w w' b b' h h' a = subst (Hears l c c' row row' w w' b b' h h') e g in
+      let t : Told (version_of c'.version2) (the-answers.answer_of b' a) = told k.frame num k.bytes k.call in
+      answers (called k.frame a k.read k.call) (subst (λ (x : List ℕ). Puts x out out' n) (exact_text (version_of c'.version2) room b' (plain a) k.call.exact ∙ text_is (version_of c'.version2) (the-answers.answer_of b' a) t big) p)
+
+-- the call of the bytes that were read
+pub heard_call : (l : List ℕ) {buf : List ℕ} {r : std.Option ℕ} (m : ℕ) → ReadsLine (line_bytes l) buf r → ((i : ℕ) → get_or buf i 0 < 256) → r ≡ Some m → {s : Settings} {c c' : Replica} {row row' : List Bound} {w w' b b' h h' ends' : List ℕ} {a : the_code.Answer} → s ≡ the_settings → length ends' ≡ 0 → Called s (on_frame (take (m - 0) (drop 0 buf))) c c' row row' w w' b b' (no_ends h) (hold_areas h' ends') a → HearsCall l c c' row row' w w' b b' h h' a
+heard_call l {buf = buf} m g ok e {s = s} {c = c} {c' = c'} {row = row} {row' = row'} {w = w} {w' = w'} {b = b} {b' = b'} {h = h} {h' = h'} {ends' = ends'} {a = a} es none k =
+    let cut : m - 0 ≡ m = omega arith in
+    record {
+      frame = take m buf;
+      bytes = bytes_take m buf (are_bytes buf ok);
+      read = sym g.bytes ∙ ap (line_read buf) e;
+      call =
+          subst (λ (x : ℕ). Called the_settings (on_frame (take x buf)) c c' row row' w w' b b' (no_ends h) (no_ends h') a) cut
+          (subst (λ (x : Settings). Called x (on_frame (take (m - 0) buf)) c c' row row' w w' b b' (no_ends h) (no_ends h') a) es
+          (subst (λ (x : List ℕ). Called s (on_frame (take (m - 0) buf)) c c' row row' w w' b b' (no_ends h) (hold_areas h' x) a) (no_words ends' none) k));
+    }
+
+-- a line without bytes
+pub heard_none : (l : List ℕ) {buf : List ℕ} {r : std.Option ℕ} → ReadsLine (line_bytes l) buf r → r ≡ None → {c : Replica} {row : List Bound} {w b h : List ℕ} → Hears l c c row row w w b b h h None
+heard_none l {buf = buf} g e = (sym g.bytes ∙ ap (line_read buf) e, refl, refl, refl, refl, refl)
 
 -- the text lies in the output area
 pub told_fits : {l : List ℕ} {c c' : Replica} {row row' : List Bound} {w w' b b' h h' out out' : List ℕ} {n : ℕ} → AnswersLine l c c' row row' w w' b b' h h' out out' n → n ≤ length out'

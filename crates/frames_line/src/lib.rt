@@ -3,13 +3,13 @@
 #![tactic(auto)]
 
 ghost use Rattle.std.specs.Prelude.{◌≡◌, ◌*◌, ◌≤◌, length};
-ghost use Rattle.frames_line.specs.Answering.{the_settings, AnswersLine};
+ghost use Rattle.frames_line.specs.Answering.{the_settings, Hears, AnswersLine};
 
 use base_refusals::Refusal;
 use frame_fields::Incarnation;
 use frame_stamp::Protocol;
 use standby_row::Bound;
-use standby_state::{Replica, Settings};
+use standby_state::{Answer, Replica, Settings};
 use store_areas::Shape;
 
 // What a line leaves of the counters and the row, and the length of its answer's text.
@@ -35,10 +35,55 @@ pub fn shape() -> Shape
 pub fn settings() -> Settings
     ensures { result ≡ the_settings }
 {
-    Settings {
-        shape: shape(),
-        incarnation: Incarnation(7),
-        max_lag: 0,
+    Settings::new(shape(), Incarnation(7), 0)
+}
+
+// What a line leaves of the counters and the row, and what its call answers: nothing where the line has no bytes.
+#[derive(Clone, Copy)]
+pub struct LineHeard {
+    pub replica: Replica,
+    pub row: [Bound; 4],
+    pub answer: Option<Answer>,
+}
+
+// Hands a line's bytes to the standby; buf is for them.
+pub fn hear(
+    counters: Replica,
+    row: [Bound; 4],
+    words: &mut [u64],
+    bytes: &mut [u8],
+    holds: &mut [u8],
+    line: &[u8],
+    buf: &mut [u8],
+) -> LineHeard
+    requires { 8192 ≤ length buf.old }
+    ensures { Hears line.now counters result.replica row result.row words.old words.new bytes.old bytes.new holds.old holds.new result.answer }
+{
+    match base_hex::read_line(line, buf) {
+        Some(n) => {
+            let mut replica = counters;
+            let mut row = row;
+            let answer = replica::on_frame(
+                &mut replica,
+                &mut row,
+                words,
+                bytes,
+                holds,
+                &mut [],
+                &buf[0..n],
+                settings(),
+            );
+            LineHeard {
+                replica,
+                row,
+                answer: Some(answer),
+            }
+        }
+        None => LineHeard {
+            replica: counters,
+            row,
+            answer: None,
+        },
     }
 }
 
@@ -57,29 +102,18 @@ fn answer_in(
     requires buf_in_bounds { 2 * length buf.old ≤ length out.old }
     ensures { AnswersLine line.now counters result.replica row result.row words.old words.new bytes.old bytes.new holds.old holds.new out.old out.new result.len }
 {
-    match base_hex::read_line(line, buf) {
-        Some(n) => {
-            let mut replica = counters;
-            let mut row = row;
-            let answer = replica::on_frame(
-                &mut replica,
-                &mut row,
-                words,
-                bytes,
-                holds,
-                &mut [],
-                &buf[0..n],
-                settings(),
-            );
-            let protocol = Protocol::of_byte(replica.version2);
-            LineAnswer {
-                replica,
-                row,
-                len: frames_reply::put_answer(protocol, answer, bytes, buf, out),
-            }
-        }
+    let heard = hear(counters, row, words, bytes, holds, line, buf);
+    let replica = heard.replica;
+    let row = heard.row;
+    let protocol = Protocol::of_byte(replica.version2);
+    match heard.answer {
+        Some(answer) => LineAnswer {
+            replica,
+            row,
+            len: frames_reply::put_answer(protocol, answer, bytes, buf, out),
+        },
         None => LineAnswer {
-            replica: counters,
+            replica,
             row,
             len: base_hex::put_refusal(Refusal::NotOneFrame.number(), out),
         },

@@ -25,7 +25,7 @@ fn places_in_use(words: &[u64]) -> usize
     words.get(word::USED).copied().unwrap_or(0) as usize
 }
 
-// Any of the six calls: what is found in the row, the call by value, and what it does to the row and the counters.
+// Any of the six calls: what is found in the row, the call by value, what it hands up, and what it does to the row and the counters.
 fn on_call(
     counters: &mut Replica,
     row: &mut [Bound],
@@ -56,9 +56,11 @@ fn on_call(
         ends,
     };
     let outcome = standby_call::run(standing, &mut areas, frame, call);
+    let answer = outcome.answer;
+    let lowest = standby_call::handed_up(settings, lookup, words, bytes, frame, call, answer);
     outcome.action.apply(row);
     *counters = outcome.replica;
-    outcome.answer
+    answer.handing_up(lowest)
 }
 
 // A frame that may be held back: its answer is sent once the pending commits have run.

@@ -1,4 +1,4 @@
-// One call on the standby, by value: which of the six it is, and what it comes to over what was found in the row (standby.rs, the functions of `Replica`).
+// One call on the standby, by value: which of the six it is, what it comes to over what was found in the row, and what it hands up (standby.rs, the functions of `Replica`).
 #![tactic(auto)]
 
 ghost use Rattle.std.specs.Prelude.{◌≡◌};
@@ -7,7 +7,10 @@ ghost use Rattle.standby_step.specs.Over.{StepOver};
 ghost use Rattle.standby_step.specs.Calls.{handle_at, sought_by};
 ghost use Rattle.standby_call.specs.Call.{call_of};
 
+mod lowest;
+
 use base_bytes::LittleEndian;
+pub use lowest::handed_up;
 use standby_state::{Areas, Outcome, Standing};
 
 // Which call it is, and the number of the connection, for the calls that name one.

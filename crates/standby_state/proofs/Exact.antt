@@ -5,15 +5,17 @@ use mathlib.Core.Bool.{Bool, true, false, cond}
 use mathlib.Core.List.{List}
 use lib.Dec.{eqb}
 use borrow.Author.Tests.{eqb-true}
-use Rattle.model_frame.specs.Frame.{Reason, stale_epoch, diverged, lag_too_great, restarted}
+use Rattle.model_frame.specs.Frame.{Reason, stale_epoch, diverged, lag_too_great, restarted, Frame, hello, welcome, bind, batch, ack, nack, bound, checked}
 use Rattle.model_frame.specs.Writing.{reason_number}
 use Rattle.frame_fields.specs.declared.CommitNumber.{CommitNumber}
 use Rattle.frame_fields.specs.declared.Epoch.{Epoch}
 use Rattle.frame_fields.specs.declared.Incarnation.{Incarnation}
-use Rattle.model_standby.specs.Answer.{refused, done}
+use Rattle.model_standby.specs.Answer.{reply, refused, done}
+use Rattle.model_standby.specs.Answer as the-answer
 use Rattle.standby_state.specs.declared.BoundSummary.{BoundSummary}
-use Rattle.standby_state.specs.Answers.{is_refused, is_done, is_welcome, is_ack, is_nack, is_bound}
-use Rattle.standby_state.specs.Exact.{RecordOf, Exact, ExactSummary}
+use Rattle.standby_state.specs.declared.Answer.{Answer}
+use Rattle.standby_state.specs.Answers.{answer_of, plain, is_refused, is_done, is_welcome, is_ack, is_nack, is_bound}
+use Rattle.standby_state.specs.Exact.{FrameRecord, RecordOf, Exact, ExactSummary}
 
 pub exact_done : (b : List ℕ) → Exact b is_done
 exact_done b = record { is = refl }
@@ -39,3 +41,23 @@ exact_nack b h restarted = record { is = refl }
 
 pub exact_bound : (b : List ℕ) (h : ℕ) (m : BoundSummary) → ExactSummary b m → Exact b (is_bound h m)
 exact_bound b h m s = record { is = record { is = ap (is_bound h) s.is; stamp = s.stamp; marks = s.marks } }
+
+-- ---- with no lowest message on hand
+
+frame_plain : (b : List ℕ) (f : Frame) (a : Answer) → FrameRecord b f a → FrameRecord b f (plain a)
+frame_plain b (hello v e node kinds) a r = r
+frame_plain b (welcome e i) a r = ap plain r
+frame_plain b (bind h e lag k) a r = r
+frame_plain b (batch h e n part cs apps) a r = r
+frame_plain b (ack h n) a r = ap plain r
+frame_plain b (nack h x) a r = ap plain r
+frame_plain b (bound h m) a r = record { is = ap plain r.is; stamp = r.stamp; marks = r.marks }
+frame_plain b (checked h e i) a r = r
+
+record_plain : (b : List ℕ) (x : the-answer.Answer) (a : Answer) → RecordOf b x a → RecordOf b x (plain a)
+record_plain b (reply f) a r = frame_plain b f a r
+record_plain b (refused n) a r = ap plain r
+record_plain b done a r = ap plain r
+
+pub exact_plain : (b : List ℕ) (a : Answer) → Exact b a → Exact b (plain a)
+exact_plain b a e = record { is = record_plain b (answer_of b a) a e.is }

@@ -1,5 +1,6 @@
 -- What an answer stands for: a refusal by its number, a frame, or done. Its texts are parts of the store's bytes b. Assumes nothing.
 use Rattle.std.specs.Prelude.{ℕ, Some, None, cond, List, eqb, is_some, unwrap_or}
+use Rattle.std.specs.Prelude as prelude
 use Rattle.std.proofs.Math.Option.{none, some}
 use Rattle.base_flags.specs.Flag.{is_set}
 use Rattle.model_frame.specs.ReasonByte
@@ -82,7 +83,7 @@ no_brief =
 
 abbrev pub blank_of : ℕ → ℕ → ℕ → Answer
 blank_of refusal kind handle =
-    record { refusal = refusal; kind = kind; handle = handle; epoch = record { 0 = 0 }; incarnation = record { 0 = 0 }; commit_no = record { 0 = 0 }; reason = 0; summary = no_brief }
+    record { refusal = refusal; kind = kind; handle = handle; epoch = record { 0 = 0 }; incarnation = record { 0 = 0 }; commit_no = record { 0 = 0 }; reason = 0; summary = no_brief; has_lowest = 0; lowest = 0 }
 
 abbrev pub is_refused : ℕ → Answer
 is_refused n = blank_of n 0 0
@@ -91,13 +92,47 @@ abbrev pub is_done : Answer
 is_done = blank_of 0 0 0
 
 abbrev pub is_welcome : Epoch → Incarnation → Answer
-is_welcome e i = record { refusal = 0; kind = FrameKind.welcome; handle = 0; epoch = e; incarnation = i; commit_no = record { 0 = 0 }; reason = 0; summary = no_brief }
+is_welcome e i = record { refusal = 0; kind = FrameKind.welcome; handle = 0; epoch = e; incarnation = i; commit_no = record { 0 = 0 }; reason = 0; summary = no_brief; has_lowest = 0; lowest = 0 }
 
 abbrev pub is_ack : ℕ → CommitNumber → Answer
-is_ack h n = record { refusal = 0; kind = FrameKind.ack; handle = h; epoch = record { 0 = 0 }; incarnation = record { 0 = 0 }; commit_no = n; reason = 0; summary = no_brief }
+is_ack h n = record { refusal = 0; kind = FrameKind.ack; handle = h; epoch = record { 0 = 0 }; incarnation = record { 0 = 0 }; commit_no = n; reason = 0; summary = no_brief; has_lowest = 0; lowest = 0 }
 
 abbrev pub is_nack : ℕ → ℕ → Answer
-is_nack h r = record { refusal = 0; kind = FrameKind.nack; handle = h; epoch = record { 0 = 0 }; incarnation = record { 0 = 0 }; commit_no = record { 0 = 0 }; reason = r; summary = no_brief }
+is_nack h r = record { refusal = 0; kind = FrameKind.nack; handle = h; epoch = record { 0 = 0 }; incarnation = record { 0 = 0 }; commit_no = record { 0 = 0 }; reason = r; summary = no_brief; has_lowest = 0; lowest = 0 }
 
 abbrev pub is_bound : ℕ → BoundSummary → Answer
-is_bound h m = record { refusal = 0; kind = FrameKind.bound; handle = h; epoch = record { 0 = 0 }; incarnation = record { 0 = 0 }; commit_no = record { 0 = 0 }; reason = 0; summary = m }
+is_bound h m = record { refusal = 0; kind = FrameKind.bound; handle = h; epoch = record { 0 = 0 }; incarnation = record { 0 = 0 }; commit_no = record { 0 = 0 }; reason = 0; summary = m; has_lowest = 0; lowest = 0 }
+
+-- ---- the lowest message on hand, which stands beside the frame
+
+-- none is handed up
+abbrev pub plain : Answer → Answer
+plain a =
+    record {
+      refusal = a.refusal;
+      kind = a.kind;
+      handle = a.handle;
+      epoch = a.epoch;
+      incarnation = a.incarnation;
+      commit_no = a.commit_no;
+      reason = a.reason;
+      summary = a.summary;
+      has_lowest = 0;
+      lowest = 0;
+    }
+
+-- it is, if it is some number
+abbrev pub handing_up : prelude.Option ℕ → Answer → Answer
+handing_up t a =
+    record {
+      refusal = a.refusal;
+      kind = a.kind;
+      handle = a.handle;
+      epoch = a.epoch;
+      incarnation = a.incarnation;
+      commit_no = a.commit_no;
+      reason = a.reason;
+      summary = a.summary;
+      has_lowest = cond (is_some t) 1 0;
+      lowest = unwrap_or t 0;
+    }

@@ -43,6 +43,8 @@ frame_record kind handle epoch incarnation number reason m =
       commit_no = record { 0 = number };
       reason = reason;
       summary = m;
+      has_lowest = 0;
+      lowest = 0;
     }
 
 -- none of a text's bytes is cut off
@@ -70,6 +72,11 @@ RecordOf b done a = a ≡ blank_of 0 0 0
 -- a is the record of the answer that it stands for: no other record stands for that answer, but for where a Bound has its texts
 pub record Exact (b : List ℕ) (a : Answer) : Type 0 where
   pub is : RecordOf b (answer_of b a) a
+
+-- ---- the lowest message on hand: a flag, and the number beside it, 0 where none is handed up
+pub record HandsUp (t : Option ℕ) (a : Answer) : Type 0 where
+  pub flag : a.has_lowest ≡ flight_flag t
+  pub number : a.lowest ≡ flight_number t
 
 -- ---- of the function that makes a Bound's summary: it is as it would be made from what it stands for
 pub record ExactSummary (b : List ℕ) (m : BoundSummary) : Type 0 where

@@ -2,6 +2,7 @@
 use Rattle.std.specs.Prelude.{ℕ, ◌<◌, ◌≤◌, ◌≡◌, min, Bool, true, false, ◌||◌, List, set, Option, is_some, unwrap_or}
 use Rattle.base_flags.specs.Flag.{is_set}
 use Rattle.frame_stamp.specs.Versions.{version_of}
+use Rattle.frame_fields.specs.declared.Incarnation.{Incarnation}
 use Rattle.standby_segments.specs.Segments.{Holds, Lengths}
 use Rattle.standby_row.specs.declared.Bound.{Bound}
 use Rattle.standby_row.specs.declared.lookup.Lookup.{Lookup}
@@ -22,6 +23,10 @@ use Rattle.standby_state.specs.Answers.{answer_of}
 
 abbrev pub counters_of : Replica → Counters
 counters_of c = record { epoch = c.epoch.0; connections = c.connections; promoted = is_set c.promoted; checked = is_set c.checked; version = version_of c.version2 }
+
+-- as they are made: a Commit hands up the lowest message on hand
+abbrev pub made_settings : Shape → Incarnation → ℕ → Settings
+made_settings shape i lag = record { shape = shape; incarnation = i; max_lag = lag; tells_lowest = 1 }
 
 -- with hold areas of `room` bytes
 abbrev pub settings_of : Settings → ℕ → state.Settings

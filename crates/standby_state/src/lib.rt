@@ -3,9 +3,9 @@
 
 ghost use Rattle.std.specs.Prelude.{◌≡◌};
 ghost use Rattle.base_refusals.specs.Numbers.{number_of};
-ghost use Rattle.standby_state.specs.Answers.{flat_of, of_flat, no_brief, blank_of, is_refused, is_done, is_welcome, is_ack, is_nack, is_bound};
+ghost use Rattle.standby_state.specs.Answers.{flat_of, of_flat, no_brief, blank_of, handing_up, is_refused, is_done, is_welcome, is_ack, is_nack, is_bound};
 ghost use Rattle.standby_row.specs.Row.{released, own_place};
-ghost use Rattle.standby_state.specs.Outcomes.{room_for, spot_of, leaving, clearing, storing, rebinding, clears, row_after};
+ghost use Rattle.standby_state.specs.Outcomes.{made_settings, room_for, spot_of, leaving, clearing, storing, rebinding, clears, row_after};
 
 use base_refusals::Refusal;
 use frame_fields::{CommitNumber, Epoch, Incarnation, Summary, kind};
@@ -14,13 +14,29 @@ pub use standby_counters::Replica;
 use standby_row::{Bound, Lookup};
 use store_areas::Shape;
 
-// What no call changes: the store's shape, this run of the standby (0 is taken as 1), and the accepted lag.
+// What no call changes: the store's shape, this run of the standby (0 is taken as 1), the accepted lag, and whether a Commit hands up the lowest
+// message on hand (it does if this is not 0): one walk over what its session has stored, which a caller that doesn't ask is spared.
 #[repr(C)]
 #[derive(Clone, Copy)]
 pub struct Settings {
     pub shape: Shape,
     pub incarnation: Incarnation,
     pub max_lag: u64,
+    pub tells_lowest: u8,
+}
+
+impl Settings {
+    // With Commits that hand it up.
+    pub fn new(shape: Shape, incarnation: Incarnation, max_lag: u64) -> Settings
+        ensures { result ≡ made_settings shape incarnation max_lag }
+    {
+        Settings {
+            shape,
+            incarnation,
+            max_lag,
+            tells_lowest: 1,
+        }
+    }
 }
 
 // How the standby stands as a call begins: its settings, its counters, and what was found in the row.
@@ -99,6 +115,22 @@ pub struct Answer {
     pub commit_no: CommitNumber,
     pub reason: u8,
     pub summary: BoundSummary,
+    // Beside the frame, which doesn't carry it: whether the call hands up the lowest message on hand (it does if this is not 0), and that number, 0 for none.
+    pub has_lowest: u8,
+    pub lowest: u64,
+}
+
+impl Answer {
+    // The same frame or refusal, with the lowest message on hand if the call hands it up.
+    pub fn handing_up(self, lowest: Option<u64>) -> Answer
+        ensures { result ≡ handing_up lowest self }
+    {
+        Answer {
+            has_lowest: u8::from(lowest.is_some()),
+            lowest: lowest.unwrap_or(0),
+            ..self
+        }
+    }
 }
 
 // What a call does to the row: nothing, it frees every record, it puts a record at a place, or it frees one record, if there is another
@@ -185,6 +217,8 @@ fn blank(refusal: u8, kind: u8, handle: u32) -> Answer
         commit_no: CommitNumber(0),
         reason: 0,
         summary: no_summary(),
+        has_lowest: 0,
+        lowest: 0,
     }
 }
 

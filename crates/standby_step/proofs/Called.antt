@@ -23,7 +23,13 @@ use Rattle.store_areas.specs.Areas.{allowed, Rules, places_of}
 use Rattle.store_areas.proofs.Ruling.{rules_true}
 use Rattle.standby_pending.specs.Pending.{pending_of}
 use Rattle.model_text.specs.Version.{latest}
-use Rattle.model_standby.specs.Answer.{refused}
+use Rattle.model_standby.specs.Answer.{intact, refused}
+use Rattle.model_frame.specs.Frame.{Part, Change, AppRecord, batch}
+use Rattle.model_lowest.specs.Lowest.{handed_up}
+use Rattle.frame_fields.specs.Answers.{flight_of}
+use Rattle.base_flags.specs.Flag.{is_set}
+use Rattle.standby_step.specs.Lowest.{call_tells, own_lowest, lowest_told}
+use Rattle.standby_step.proofs.Lowest.{BytesOf, given_of, damaged_refused, batch_looks, told_call, hands_up, leaves_told}
 use Rattle.standby_row.specs.declared.Bound.{Bound as BoundRecord}
 use Rattle.model_standby.specs.Row.{Row, is_some, has_free, find, has_room, put}
 use Rattle.model_standby.specs.State.{Bound, Standby, Result, Call, on_frame_held, on_frame, flush, disconnected_from, promote, promote_unchecked}
@@ -40,7 +46,8 @@ use Rattle.standby_batch_handle.specs.Handling.{found_of}
 use Rattle.standby_counters.specs.declared.Replica.{Replica}
 use Rattle.standby_state.specs.declared.Settings.{Settings}
 use Rattle.standby_state.specs.declared.Outcome.{Outcome}
-use Rattle.standby_state.specs.Answers.{answer_of, is_refused}
+use Rattle.standby_state.specs.Answers.{answer_of, is_refused, handing_up}
+use Rattle.standby_state.proofs.Exact.{exact_plain}
 use Rattle.standby_state.specs.declared.RowAction.{RowAction}
 use Rattle.standby_state.specs.Outcomes.{counters_of, settings_of, leaving, spot_of, action_for, action_of, outcome_of, row_after, Fits, Rebinds, Lands}
 use Rattle.standby_step.specs.Steps.{room_of, lengths_in, found_in, rooms_in, handle_by, asks, keeps_counters, Leaves, holds_after, closes_by, writes_by, Stepped, StepIs}
@@ -471,18 +478,38 @@ module _ (s : Settings) (c : Replica) (row : List BoundRecord) (call : Call) (w 
         ∙ of_whole (get_or w' 0 0) R Row'
         (next_whole row K w h See seen (get_or w' 0 0) (area_at E (own_place See) h') o.action st.lands st.more (whole_of (get_or w 0 0) R row (and_r (handles.apart_of row) (leb (length row) (broken_of row (get_or w 0 0) R)) row_rules)))
 
-    called_steps : CalledSteps s call c o.replica row Row' w w' b b' h h' o.answer
-    called_steps =
+    -- ---- the lowest message on hand
+
+    answer_core : answer_of b' o.answer ≡ (core_step L (core_at (counters_of c) s.shape w b) (found_in See h) (rooms_in See row (handle_by call)) call).answer
+    answer_core = ap (λ (r : CoreResult). r.answer) st.is
+
+    step_is : record { state = record { counters = counters_of o.replica; places = places_of s.shape w' b'; handles = row_of (bound_of latest) (lengths_all Row' h') Row' h'; pending = pending_of w' }; answer = answer_of b' o.answer } ≡ step L X call
+    step_is =
+        (λ i. record {
+          state = record { counters = counters_of o.replica; places = places_of s.shape w' b'; handles = handles_are i; pending = pending_of w' };
+          answer = answer_of b' o.answer;
+        })
+        ∙ ap (acted T) (st.is ∙ found_own_core)
+        ∙ sym stepped_is
+
+    looked_for : (k e n : ℕ) (p : Part) (cs : List Change) (apps : List AppRecord) → given_of (counters_of c).version call ≡ some (intact (batch k e n p cs apps)) → find k T ≡ found_in See h
+    looked_for k e n p cs apps g =
+        let l = batch_looks (counters_of c).version call g in
+        ap (λ (j : ℕ). find j T) (sym (sought_own call l.asked ∙ l.named)) ∙ sym (found_in_lem row K w h See seen)
+
+    told : BytesOf call → flight_of (lowest_told s See call w' b' o.answer) ≡ handed_up (is_set s.tells_lowest) X call (step L X call)
+    told bytes =
+        told_call (is_set s.tells_lowest) s.shape w' b' (area_at (lengths_in See h) (own_place See) h) See o.answer X (step L X call) (counters_of c).version (rules_true s.shape w' b' st.rules)
+        (ap (λ (r : Result). r.answer) (sym step_is)) (ap (λ (r : Result). r.state.places) (sym step_is)) refl call bytes
+        (λ n g. answer_core ∙ damaged_refused L (core_at (counters_of c) s.shape w b) (found_in See h) (rooms_in See row (handle_by call)) call n g)
+        looked_for
+
+    called_steps : BytesOf call → CalledSteps s call c o.replica row Row' w w' b b' h h' (handing_up (lowest_told s See call w' b' o.answer) o.answer)
+    called_steps bytes =
         record {
-          is =
-              (λ i. record {
-                state = record { counters = counters_of o.replica; places = places_of s.shape w' b'; handles = handles_are i; pending = pending_of w' };
-                answer = answer_of b' o.answer;
-              })
-              ∙ ap (acted T) (st.is ∙ found_own_core)
-              ∙ sym stepped_is;
+          is = step_is;
           allowed = allowed_after;
-          leaves = leaves_own;
+          leaves = leaves_told s.shape c (get_or row (find_of row (handle_by call)) handles.free_record).place call w w' b b' (lowest_told s See call w' b' o.answer) o.answer leaves_own;
           holds = holds_own;
           row_leaves = row_by_lem;
           row_still = still_row;
@@ -490,10 +517,15 @@ module _ (s : Settings) (c : Replica) (row : List BoundRecord) (call : Call) (w 
           counters_kept = st.kept;
           holds_length = holds_same;
           ends_length = ends_same;
+          lowest = hands_up (lowest_told s See call w' b' o.answer) o.answer (told bytes);
         }
 
-  pub called : StepIs s c See row call w w' b b' h h' o → Called s call c o.replica row Row' w w' b b' h h' o.answer
-  called p =
+  -- a refusal hands nothing up
+  refused_told : (n : ℕ) → eqb n 0 ≡ false → lowest_told s See call w' b' (is_refused n) ≡ RustOption.None
+  refused_told n e = ap (λ (t : Bool). cond ((t && false) && call_tells (is_set s.tells_lowest) call) (own_lowest s.shape w' b' See.own) RustOption.None) e
+
+  pub called : BytesOf call → StepIs s c See row call w w' b b' h h' o → Called s call c o.replica row Row' w w' b b' h h' (handing_up (lowest_told s See call w' b' o.answer) o.answer)
+  called bytes p =
       record {
         refuses = λ e. refused (p.refuses (seen_allowed_lem s row K w b h.bytes seen ∙ e));
         steps = λ e.
@@ -501,14 +533,15 @@ module _ (s : Settings) (c : Replica) (row : List BoundRecord) (call : Call) (w 
             (over_row
             (p.steps (seen_allowed_lem s row K w b h.bytes seen ∙ e)
             (λ f a.
-            ap (λ (x : BoundRecord). x.handle) (seen_record row K (get_or w 0 0) R seen) ∙ found_own row K (ltb-true (find_of row K) (length row) (sym (seen_found row K (get_or w 0 0) R seen) ∙ f)) ∙ sought_own call a)));
-        exact = p.exact;
+            ap (λ (x : BoundRecord). x.handle) (seen_record row K (get_or w 0 0) R seen) ∙ found_own row K (ltb-true (find_of row K) (length row) (sym (seen_found row K (get_or w 0 0) R seen) ∙ f)) ∙ sought_own call a)))
+            bytes;
+        exact = exact_plain b' o.answer p.exact;
       }
     where
       refused : (o ≡ leaving c (is_refused 25)) × ((w' ≡ w) × ((b' ≡ b) × (h' ≡ h)))
-          → (o.answer ≡ is_refused 25) × ((o.replica ≡ c) × ((Row' ≡ row) × ((w' ≡ w) × ((b' ≡ b) × (h' ≡ h)))))
+          → (handing_up (lowest_told s See call w' b' o.answer) o.answer ≡ is_refused 25) × ((o.replica ≡ c) × ((Row' ≡ row) × ((w' ≡ w) × ((b' ≡ b) × (h' ≡ h)))))
       refused q = (
-        ap (λ (x : Outcome). x.answer) q.0,
+        (λ i. handing_up (lowest_told s See call w' b' (q.0 i).answer) (q.0 i).answer) ∙ ap (λ (t : RustOption ℕ). handing_up t (is_refused 25)) (refused_told 25 refl),
         (
           ap (λ (x : Outcome). x.replica) q.0,
           (

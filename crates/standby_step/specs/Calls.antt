@@ -4,6 +4,8 @@ use Rattle.std.proofs.Math.Option.{Option, none, some}
 use Rattle.model_frame.specs.Refusal
 use Rattle.model_frame.specs.Bytes.{le_at}
 use Rattle.model_frame.specs.Frame.{Frame, hello, welcome, bind, batch, ack, nack, bound, checked}
+use Rattle.model_lowest.specs.Lowest.{handed_up}
+use Rattle.base_flags.specs.Flag.{is_set}
 use Rattle.standby_segments.specs.Segments.{Holds, Lengths}
 use Rattle.standby_row.specs.declared.Bound.{Bound}
 use Rattle.standby_row.specs.Row.{free_record, find_of, broken_of, apart_of, alone_at, spot_for, cleared_all}
@@ -21,8 +23,8 @@ use Rattle.standby_part.specs.State.{bound_of, record_for}
 use Rattle.standby_counters.specs.declared.Replica.{Replica}
 use Rattle.standby_state.specs.declared.Settings.{Settings}
 use Rattle.standby_state.specs.declared.Answer.{Answer}
-use Rattle.standby_state.specs.Answers.{answer_of, is_refused}
-use Rattle.standby_state.specs.Exact.{Exact}
+use Rattle.standby_state.specs.Answers.{answer_of, is_refused, plain}
+use Rattle.standby_state.specs.Exact.{Exact, HandsUp}
 use Rattle.standby_state.specs.Outcomes.{counters_of, settings_of}
 use Rattle.standby_step.specs.Steps.{room_of, handle_by, keeps_counters, Leaves, holds_after, closes_by, writes_by}
 
@@ -129,9 +131,11 @@ pub record CalledSteps (s : Settings) (call : Call) (c c' : Replica) (row row' :
   pub counters_kept : keeps_counters c call ≡ true → c' ≡ c
   pub holds_length : length h'.bytes ≡ length h.bytes
   pub ends_length : length h'.ends ≡ length h.ends
+  -- the lowest message on hand, beside the frame: of an applied Commit, if the settings ask for it, and of an applied LastWhole
+  pub lowest : HandsUp (handed_up (is_set s.tells_lowest) (standby_of s c row w b h) call (step (settings_of s (room_all row h.bytes)) (standby_of s c row w b h) call)) a
 
--- 25 where the rules are broken, and all is as it was; else the step; the answer is the record of what it stands for, field for field
+-- 25 where the rules are broken, and all is as it was; else the step; but for the lowest message on hand the answer is the record of what it stands for, field for field
 pub record Called (s : Settings) (call : Call) (c c' : Replica) (row row' : List Bound) (w w' b b' : List ℕ) (h h' : Holds) (a : Answer) : Type 0 where
   pub refuses : allowed_all s row w b h.bytes ≡ false → (a ≡ is_refused Refusal.rules_broken) × ((c' ≡ c) × ((row' ≡ row) × ((w' ≡ w) × ((b' ≡ b) × (h' ≡ h)))))
   pub steps : allowed_all s row w b h.bytes ≡ true → CalledSteps s call c c' row row' w w' b b' h h' a
-  pub exact : Exact b' a
+  pub exact : Exact b' (plain a)

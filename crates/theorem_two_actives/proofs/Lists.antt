@@ -35,7 +35,7 @@ use Rattle.theorem_two_actives.specs.TwoActives.{OnlyCommitsRan}
 use Rattle.theorem_two_actives.proofs.TwoActives.{two_actives}
 
 abbrev s₀ : Settings
-s₀ = record { shape = record { places = 2; bytes = 4; messages = 2 }; incarnation = record { 0 = 7 }; max_lag = 0 }
+s₀ = record { shape = record { places = 2; bytes = 4; messages = 2 }; incarnation = record { 0 = 7 }; max_lag = 0; tells_lowest = 1 }
 
 abbrev x₀ : Lent
 x₀ =

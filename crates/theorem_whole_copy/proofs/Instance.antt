@@ -23,7 +23,7 @@ use Rattle.standby_state.specs.declared.Settings.{Settings}
 use Rattle.theorem_whole_copy.specs.Demand.{Lent, Start}
 
 abbrev s₀ : Settings
-s₀ = record { shape = record { places = 1; bytes = 0; messages = 0 }; incarnation = record { 0 = 7 }; max_lag = 0 }
+s₀ = record { shape = record { places = 1; bytes = 0; messages = 0 }; incarnation = record { 0 = 7 }; max_lag = 0; tells_lowest = 1 }
 
 abbrev h₀ : BoundRecord
 h₀ = record { used = 1; handle = 9; place = 0; commit_no = record { 0 = 7 }; held_len = 0; held_bytes = 3 }

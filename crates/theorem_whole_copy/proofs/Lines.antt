@@ -190,7 +190,7 @@ module _ (limit : ℕ) (under : limit < 33554432) where
       }
 
   abbrev s₂ : Settings
-  s₂ = record { shape = record { places = 1; bytes = size; messages = 2 }; incarnation = record { 0 = 7 }; max_lag = 0 }
+  s₂ = record { shape = record { places = 1; bytes = size; messages = 2 }; incarnation = record { 0 = 7 }; max_lag = 0; tells_lowest = 1 }
 
   abbrev x₂ : Lent
   x₂ =

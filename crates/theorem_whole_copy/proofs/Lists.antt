@@ -61,7 +61,7 @@ A₁_held =
     }
 
 abbrev s₁ : Settings
-s₁ = record { shape = record { places = 1; bytes = 1; messages = 2 }; incarnation = record { 0 = 7 }; max_lag = 0 }
+s₁ = record { shape = record { places = 1; bytes = 1; messages = 2 }; incarnation = record { 0 = 7 }; max_lag = 0; tells_lowest = 1 }
 
 abbrev h₁ : BoundRecord
 h₁ = record { used = 1; handle = 9; place = 0; commit_no = record { 0 = 7 }; held_len = 0; held_bytes = 0 }

@@ -112,11 +112,7 @@ fn hand(
     way: Way,
     a: Option<u64>,
 ) -> io::Result<Way> {
-    let settings = Settings {
-        shape: way.shape,
-        incarnation: Incarnation(7),
-        max_lag: 0,
-    };
+    let settings = Settings::new(way.shape, Incarnation(7), 0);
     let mut replica = way.replica;
     let mut row = way.row;
     let answer = replica::on_frame(

@@ -133,11 +133,7 @@ fn call(
     ends: &mut [u64],
     way: Way,
 ) -> Called {
-    let settings = Settings {
-        shape: way.shape,
-        incarnation: Incarnation(7),
-        max_lag: 3,
-    };
+    let settings = Settings::new(way.shape, Incarnation(7), 3);
     let mut replica = way.replica;
     let mut room = way.row;
     let handles = way.handles.min(4);

@@ -115,7 +115,8 @@ impl Pair {
     }
 
     fn bound(setting: &Setting, handle: impl Fn(u64) -> u32) -> Self {
-        let us = Ours::lending(setting, setting.named_ends()).expect("made");
+        let mut us = Ours::lending(setting, setting.named_ends()).expect("made");
+        us.tells(false);
         let rust = Rust::make(setting).expect("made");
         let handles: Vec<u32> = (0..setting.sessions).map(handle).collect();
         let binds: Vec<_> =
@@ -123,6 +124,12 @@ impl Pair {
         let mut pair = Self { us, rust, out: Vec::new(), handles };
         binds.iter().for_each(|bind| pair.both(bind));
         pair
+    }
+
+    /// With Commits that tell the lowest message on hand, which the Rust doesn't.
+    fn telling(mut self) -> Self {
+        self.us.tells(true);
+        self
     }
 
     fn both(&mut self, frame: &[u8]) {
@@ -406,6 +413,11 @@ fn calls() {
         let pair = Pair::new(&setting(1, 33_554_432, messages, 0));
         let name = format!("on_frame: Commit of one message of 300, C = 32 MiB, M = {messages}, full");
         print(&pair.commits(name, 1, 300, messages + 10, 100_000));
+    }
+    for messages in [64, 1_024, 65_536] {
+        let pair = Pair::new(&setting(1, 33_554_432, messages, 0)).telling();
+        let name = format!("the same, telling the lowest message on hand, M = {messages}, full");
+        print(&pair.commits(name, 1, 300, messages + 10, 20_000));
     }
     print(&hashing());
     for (version, stamp) in STAMPS {

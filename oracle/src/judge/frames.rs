@@ -5,6 +5,7 @@ use turbojet_replica::frame::{Frame, FrameError};
 use crate::call::{Setting, hold_for_any};
 use crate::differences;
 use crate::digits;
+use crate::lowest;
 use crate::rust::{Rust, encoded, read_refusal};
 use crate::side::{Side, answer_text, refusal};
 
@@ -72,15 +73,29 @@ pub fn read_lines(input: &[u8], read: impl Fn(&[u8]) -> Reading) -> String {
 
 const LONGEST_LINE: usize = 16_384;
 
-/// What `frames` prints for an input, over the Rust.
-pub fn program(input: &[u8]) -> String {
+/// What a program prints for an input, over the Rust: of each frame what is said of it, and of a line that is none.
+fn told(input: &[u8], say: impl Fn(&mut Rust, &[u8]) -> String, bad: &str) -> String {
     let (bytes, messages) = (4_096, 64);
     let hold = hold_for_any(bytes, messages);
     let setting = Setting { incarnation: 7, lag: 0, bytes, messages, sessions: 4, handles: 4, hold };
     let mut rust = Rust::make(&setting).expect("within the limits");
     let mut answer = |line: &[u8]| match digits::read(line) {
-        Some(frame) if !line.is_empty() && line.len() <= LONGEST_LINE => answer_text(&rust.frame(&frame, false)),
-        _ => refusal(26),
+        Some(frame) if !line.is_empty() && line.len() <= LONGEST_LINE => say(&mut rust, &frame),
+        _ => bad.into(),
     };
     lines(input).into_iter().map(|line| answer(line) + "\n").collect()
+}
+
+/// What `frames` prints.
+pub fn program(input: &[u8]) -> String {
+    told(input, |rust, frame| answer_text(&rust.frame(frame, false)), &refusal(26))
+}
+
+/// What `lowest` prints.
+pub fn lowest_program(input: &[u8]) -> String {
+    let say = |rust: &mut Rust, frame: &[u8]| {
+        let answer = rust.frame(frame, false);
+        lowest::text(lowest::handed_up(frame, &answer, &rust.state()))
+    };
+    told(input, say, "-")
 }

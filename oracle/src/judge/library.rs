@@ -71,6 +71,7 @@ pub struct Settings {
     pub size: Size,
     pub incarnation: u64,
     pub max_lag: u64,
+    pub tells_lowest: u8,
 }
 
 /// The areas that a standby is lent.
@@ -161,6 +162,7 @@ pub struct Imported {
     pub refusal: u8,
     pub place: usize,
     pub at: usize,
+    pub lowest: u64,
 }
 
 #[cfg(plain)]
@@ -341,6 +343,16 @@ mod entry {
         commit_no: u64,
         reason: u8,
         summary: BoundSummary,
+        has_lowest: u8,
+        lowest: u64,
+    }
+
+    impl Said {
+        /// The lowest message on hand, if it is handed up: the flag is 0 or 1, and the number 0 without it.
+        pub fn handed_up(&self) -> Option<u64> {
+            assert!(self.has_lowest < 2 && (self.has_lowest == 1 || self.lowest == 0), "a flag and its number");
+            (self.has_lowest != 0).then_some(self.lowest)
+        }
     }
 
     /// Entry points: with a frame; with a number, which is a connection; with neither.

@@ -18,6 +18,7 @@ mod holding;
 mod imports;
 #[cfg(ours)]
 mod library;
+mod lowest;
 #[cfg(ours)]
 mod ours;
 #[cfg(ours)]
@@ -72,6 +73,7 @@ fn main() -> ExitCode {
             None => usage(),
         },
         ["rust-frames-program"] => print(&frames::program(&input())),
+        ["rust-lowest-program"] => print(&frames::lowest_program(&input())),
         #[cfg(ours)]
         ["our-calls"] => print(&side::run::<ours::Ours>(&String::from_utf8_lossy(&input()))),
         #[cfg(ours)]

@@ -46,6 +46,9 @@ pub struct Ours {
     areas: Areas,
     settings: Settings,
     hold: u64,
+    /// What the last call handed up: the lowest message on hand.
+    #[cfg_attr(not(calls), allow(dead_code))]
+    pub lowest: Option<u64>,
     /// Where answers, sessions and frames of sendings are written.
     #[cfg(calls)]
     answered: Out,
@@ -92,6 +95,7 @@ impl Ours {
         let lowered = if let Ask::Held(frame) | Ask::Frame(frame) = ask { faults::lowered(frame) } else { Vec::new() };
         let ask = faults::asked(ask, self.counters.connections, &lowered);
         let said = self.said(ask);
+        self.lowest = said.handed_up();
         let mut answer = self.written(&said);
         before.after(&mut self.counters, &mut self.areas, self.settings.size, ask, &mut answer);
         answer
@@ -523,14 +527,20 @@ impl Ours {
         let mut ours = Self {
             counters: Counters::default(),
             areas: Areas::new(lent, setting.handles as usize, setting.hold as usize, ends as usize),
-            settings: Settings { size, incarnation: setting.incarnation, max_lag: setting.lag },
+            settings: Settings { size, incarnation: setting.incarnation, max_lag: setting.lag, tells_lowest: 1 },
             hold: setting.hold,
+            lowest: None,
             #[cfg(calls)]
             answered: Out::default(),
             told: Out::default(),
             sent: Out::default(),
         };
         ours.made().then_some(ours)
+    }
+
+    /// Whether Commits tell the lowest message on hand, as made settings have it.
+    pub fn tells(&mut self, commits: bool) {
+        self.settings.tells_lowest = u8::from(commits);
     }
 }
 
@@ -613,7 +623,9 @@ impl Side for Ours {
         let before = self.areas.words[0];
         let mut said = library::import(&mut self.areas, self.settings.size, key, file);
         faults::after_import(&mut said, &mut self.areas, self.settings.size);
-        let Imported { refusal, place, at } = said;
+        let Imported { refusal, place, at, lowest } = said;
+        self.lowest = (refusal == 0).then_some(lowest);
+        assert!(refusal == 0 || lowest == 0, "wz_import refuses with a number");
         if refusal == 0 {
             assert_eq!((place as u64, at), (before, 0), "wz_import names another place");
             return Ok(());

@@ -10,9 +10,13 @@ use std::panic::{set_hook, take_hook};
 use std::time::{Duration, Instant};
 
 use crate::call::{Call, Setting};
+#[cfg(calls)]
+use crate::digits;
 use crate::generate::Random;
 #[cfg(calls)]
 use crate::generate::broken_row;
+#[cfg(calls)]
+use crate::lowest;
 #[cfg(ours)]
 use crate::ours::Ours;
 use crate::rust::Rust;
@@ -90,9 +94,32 @@ impl Watched {
             let lines = |state: &State| format!("version {}, {}", state.version, state.lines());
             return Err(Unlike::answers(&lines(&state), &us.map_or_else(|words| words, |us| lines(&us))));
         }
+        self.lowest(call, &answered, &state)?;
         let look = looked(|| self.shadow.look(self.us.areas(), call, &answered, held));
         look.and_then(|look| look).map_err(Unlike::areas)?;
         Ok(answered)
+    }
+}
+
+#[cfg(calls)]
+impl Watched {
+    /// What the call handed up, beside the Rust's session after it.
+    fn lowest(&self, call: &Call, answered: &str, state: &State) -> Result<(), Unlike> {
+        let rust = match call {
+            Call::Held(frame) | Call::Frame(frame) => {
+                let answer = digits::read(answered.as_bytes()).ok_or(0);
+                lowest::handed_up(frame, &answer, state)
+            }
+            Call::Flush(_) | Call::Drop(_) | Call::Promote | Call::Unchecked => None,
+            Call::Import { .. } if answered.starts_with("R ") => None,
+            Call::Import { key, .. } => lowest::of(key, state),
+            _ => return Ok(()),
+        };
+        if self.us.lowest == rust {
+            return Ok(());
+        }
+        let told = |lowest| format!("the lowest message on hand {}", lowest::text(lowest));
+        Err(Unlike::answers(&told(rust), &told(self.us.lowest)))
     }
 }
 

@@ -1,4 +1,4 @@
-//! A stand-in for our side: document 01, and U2, U4, U7 and U9 of document 02, read a second time, without the Rust and without the
+//! A stand-in for our side: document 01, and U2, U4, U7, U9 and U10 of document 02, read a second time, without the Rust and without the
 //! areas' real layout, but for the counts and the durable mark. It tries the comparison out, and faults can be put into
 //! it one at a time (WIZHDULET_FAULT) to see that the comparison finds each.
 
@@ -423,8 +423,28 @@ impl Standby<'_> {
     }
 }
 
-/// What a call gives: the answer's frame, or a refusal.
-pub struct Said(pub Answer);
+/// What a call gives: the answer's frame, or a refusal; and the lowest message on hand, if it is handed up (document 02, U10).
+pub struct Said(pub Answer, Option<u64>);
+
+impl Said {
+    pub fn handed_up(&self) -> Option<u64> {
+        self.1
+    }
+}
+
+impl Standby<'_> {
+    /// Of a Commit or LastWhole that is acknowledged, the first number that its session still has.
+    fn lowest(&self, frame: &[u8], answer: &Answer) -> Option<u64> {
+        let acknowledged = matches!(answer, Ok(answer) if answer.get(4) == Some(&5));
+        if !acknowledged || frame[4] != 4 || (frame[25] == 1) != fault(74) {
+            return None;
+        }
+        let handle = u32::from_le_bytes([frame[5], frame[6], frame[7], frame[8]]);
+        let messages = &self.sessions[self.row[self.index(handle)?].place as usize].messages;
+        let told = if fault(75) { messages.last() } else { messages.first() };
+        Some(told.map_or(0, |(number, _)| *number))
+    }
+}
 
 /// Makes a store, and a standby over it.
 pub fn made(_: &mut Counters, areas: &mut Areas, settings: Settings) -> u64 {
@@ -471,8 +491,12 @@ pub fn said(counters: &mut Counters, areas: &mut Areas, settings: Settings, ask:
         Ask::Promote => standby.promote(false),
         Ask::Unchecked => standby.promote(true),
     };
+    let lowest = match ask {
+        Ask::Held(frame) | Ask::Frame(frame) => standby.lowest(frame, &answer),
+        _ => None,
+    };
     STORES.with_borrow_mut(|stores| stores.insert(store, standby.sessions));
-    Said(answer)
+    Said(answer, lowest)
 }
 
 /// Where a Bound's frame has the length of its stamp.
@@ -634,7 +658,7 @@ pub fn resend(areas: &Areas, _: Size, ranges: &[u64], entries: &mut [u64], place
 
 /// Each message is recorded with all its bytes; what is skipped has none.
 pub fn import(areas: &mut Areas, size: Size, key: &Key, file: &[u8]) -> Imported {
-    let refused = |refusal, at| Imported { refusal, place: 0, at };
+    let refused = |refusal, at| Imported { refusal, place: 0, at, lowest: 0 };
     let printable = |text: &[u8]| text.len() <= 32 && text.iter().all(|byte| (0x20..0x7f).contains(byte));
     if !key.iter().all(|text| printable(text)) || key[..3].iter().any(Vec::is_empty) {
         return refused(5, 0);
@@ -652,9 +676,10 @@ pub fn import(areas: &mut Areas, size: Size, key: &Key, file: &[u8]) -> Imported
         let text = text[..text.len() - usize::from(fault(20))].to_vec();
         session.apply(&Change::Record(seq, Some(text)), size.bytes.into(), size.messages.into());
     }
+    let lowest = session.messages.first().map_or(0, |(number, _)| *number);
     let place = sessions.len();
     sessions.push(session);
     areas.words[0] += 1;
     STORES.with_borrow_mut(|stores| stores.insert(store(areas), sessions));
-    Imported { refusal: 0, place, at: 0 }
+    Imported { refusal: 0, place, at: 0, lowest }
 }

@@ -1,16 +1,9 @@
-use Rattle.std.proofs.Common.{refl, arith}
-use Rattle.c_store.proofs.Laws.{cannot, next_is, recorded, none_left}
+use Rattle.std.proofs.Common.{refl}
+use Rattle.c_changes.proofs.Laws.{recorded_lowest, not_recorded}
 use Rattle.c_changes.proofs.store_record.Goals as goal
 
-pub returns-then-seq : goal.returns-then-seq
-returns-then-seq c =
-    cannot refl c.in-Ok.ensures.in_use (none_left (next_is refl c.in-Ok.ensures.in_use (rw (c.in-Ok.ensures.shape, c.in-Ok.ensures.words, c.in-Ok.ensures.bytes) at c.spot-spot.ensures) c.next_outgoing-seq.ensures) c.if-seq.true) (omega arith) c.number-then-seq.ensures
-
-pub record-requires : goal.record-requires
-record-requires c =
-    record { max_in_bounds = omega (arith, (rw (c.in-Ok.ensures.shape, c.in-Ok.ensures.words, c.in-Ok.ensures.bytes) at c.spot-spot.ensures)); in_bounds = omega (arith, (rw (c.in-Ok.ensures.shape, c.in-Ok.ensures.words, c.in-Ok.ensures.bytes) at c.spot-spot.ensures)); seq_value = c.next_outgoing-seq.ensures; seq_bound = omega (arith, c.if-seq.false) }
+pub returns-then-refusal-ne0 : goal.returns-then-refusal-ne0
+returns-then-refusal-ne0 c = not_recorded c.args.shape c.args.place c.args.text.now _ _ _ _ c.record-refusal.ensures c.if-refusal-ne0.true
 
 pub returns : goal.returns
-returns c =
-    recorded refl c.in-Ok.ensures.in_use (rw (c.in-Ok.ensures.shape, c.in-Ok.ensures.words, c.in-Ok.ensures.bytes) at c.spot-spot.ensures) c.next_outgoing-seq.result c.args.text.now c.«record».new.words c.«record».new.bytes c.next_outgoing-seq.ensures
-    (omega (arith, c.if-seq.false)) c.«record».auto.words c.«record».auto.bytes (c.«record».ensures c.args.shape.bytes (rw (c.in-Ok.ensures.shape, c.in-Ok.ensures.words, c.in-Ok.ensures.bytes) at c.spot-spot.ensures).bytes_part)
+returns c = recorded_lowest c.args.shape c.args.place c.args.text.now _ _ _ _ c.lowest.result c.record-refusal.ensures c.if-refusal-ne0.false c.lowest.ensures c.unwrap_or.ensures refl

@@ -1,5 +1,5 @@
 use Rattle.std.proofs.Common.{length, ◌≡◌, ◌-◌, ◌≤◌}
-use Rattle.frames.proofs.take_piece.Given as goal
+use Rattle.frames_shell.proofs.take_piece.Given as goal
 
 -- the line's area keeps its length, the next line's bytes lie in it, and the piece goes on within itself
 abbrev pub invariant-loop-at : goal.invariant-loop-at

@@ -1,0 +1,2 @@
+-- One line's lowest message on hand.
+pub mod Telling
