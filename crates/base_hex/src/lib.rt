@@ -1,19 +1,19 @@
 // Lines of lower-case hexadecimal digits, read into bytes and written from them.
 #![tactic(auto)]
 
-ghost use Rattle.std.specs.Prelude.{◌≡◌, ◌+◌, ◌*◌, ◌/◌, ◌%◌, ◌≤◌, ◌<◌, length, MatchOption};
+ghost use Rattle.std.specs.Prelude.{◌≡◌, ◌+◌, ◌*◌, ◌/◌, ◌%◌, ◌≤◌, ◌<◌, length};
 ghost use Rattle.model_text.specs.Hex.{digit_value, bytes_from, line_bytes, digit_of, hex_of, refusal_text};
 ghost use Rattle.base_hex.specs.Lines.{IsByteOf, ReadsLine, WroteFront, Puts};
 
-// The value of a digit, if the byte is one.
+// The value of a digit, 16 for a byte that is none: with an `Option` whether a byte is 0 to 9 or a to f is a jump, and a line of mixed digits takes up to three times as long.
 #[tactic(auto, unfolding(model_text::specs::Hex::digit_value))]
-fn digit_value(b: u8) -> Option<u8>
-    ensures { MatchOption result (16 ≤ digit_value b) (λ v. (v ≡ digit_value b) × (v < 16)) }
+fn digit_value(b: u8) -> u8
+    ensures { result ≡ digit_value b }
 {
     match b {
-        b'0'..=b'9' => Some(b - b'0'),
-        b'a'..=b'f' => Some(b - b'a' + 10),
-        _ => None,
+        b'0'..=b'9' => b - b'0',
+        b'a'..=b'f' => b - b'a' + 10,
+        _ => 16,
     }
 }
 
@@ -21,9 +21,13 @@ fn digit_value(b: u8) -> Option<u8>
 fn byte_of(high: u8, low: u8) -> Option<u8>
     ensures { IsByteOf high low result }
 {
-    let high = digit_value(high)?;
-    let low = digit_value(low)?;
-    Some(high * 16 + low)
+    let high = digit_value(high);
+    let low = digit_value(low);
+    if (high < 16) & (low < 16) {
+        Some(high * 16 + low)
+    } else {
+        None
+    }
 }
 
 // The bytes of an even number of digits: how many, at the start of the area. It is written by an index, here and in put_hex, since after a loop over
