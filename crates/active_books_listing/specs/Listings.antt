@@ -16,9 +16,10 @@ pub record NoRoom (w l : List ℕ) (e : Refusal) : Type 0 where
   pub refusal : e ≡ Refusal.TooManySessions
   pub full : 256 < length (meeting l (book_of w).met)
 
-abbrev pub Gathers : List ℕ → List ℕ → Result (ArrayVec ℕ) Refusal → Type 0
-Gathers w l (Ok fresh) = AreNew w l fresh.items
-Gathers w l (Err e) = NoRoom w l e
+-- these of the listing are new, in the list that was lent, or there is no room for all
+abbrev pub Gathers : List ℕ → List ℕ → ArrayVec ℕ → Result (Unit {0}) Refusal → Type 0
+Gathers w l fresh (Ok _) = AreNew w l fresh.items
+Gathers w l fresh (Err e) = NoRoom w l e
 
 -- all of the listing are met, or there is no room and no word changed
 abbrev pub MeetsListed : List ℕ → List ℕ → List ℕ → Result (Unit {0}) Refusal → Type 0

@@ -26,24 +26,26 @@ fn is_known(books: &BooksView<'_>, fresh: &[u64], session: u64, place: usize) ->
     is_listed(books.met(), session, place) || fresh.contains(&session)
 }
 
-// The sessions of a listing that are new, each once. There is no room for a 257th.
+// The sessions of a listing that are new, each once, in place of what `fresh` held. There is no room for a 257th. The caller lends the list: in the result its 2 KB would be
+// copied twice, which took a pass over few sessions three times as long.
 pub fn gather(
     books: &BooksView<'_>,
     listing: &[u64],
-) -> Result<ArrayVec<u64, { Books::MAX_SESSIONS }>, Refusal>
-    ensures { Gathers books.now.words.now listing.now result }
+    fresh: &mut ArrayVec<u64, { Books::MAX_SESSIONS }>,
+) -> Result<(), Refusal>
+    ensures { Gathers books.now.words.now listing.now fresh.new result }
 {
     let n = books.words[word::MET_COUNT] as usize;
-    let mut fresh = ArrayVec::new();
+    fresh.clear();
     for (place, session) in listing.iter().enumerate() {
-        if !is_known(books, &fresh, *session, place) {
+        if !is_known(books, fresh, *session, place) {
             if Books::MAX_SESSIONS <= n + fresh.len() {
                 return Err(Refusal::TooManySessions);
             }
             fresh.push(*session);
         }
     }
-    Ok(fresh)
+    Ok(())
 }
 
 // Those that are new are met.
@@ -62,7 +64,8 @@ pub fn meet_listed(books: &mut Books<'_>, listing: &[u64]) -> Result<(), Refusal
     ensures same_area { books.new.words.ghost_name ≡ books.old.words.ghost_name }
     ensures lists { MeetsListed books.old.words.now books.new.words.now listing.now result }
 {
-    let fresh = gather(&books.view(), listing)?;
+    let mut fresh = ArrayVec::new();
+    gather(&books.view(), listing, &mut fresh)?;
     append_all(books, &fresh);
     Ok(())
 }

@@ -21,7 +21,8 @@ pub fn all_fall_behind(words: &mut [u64], listing: &[u64]) -> Result<(), Refusal
 {
     check_rules(words)?;
     let books = BooksView { words };
-    let fresh = gather(&books, listing)?;
+    let mut fresh = ArrayVec::new();
+    gather(&books, listing, &mut fresh)?;
     let mut fallen = ArrayVec::new();
     fall_listed(&books, listing, books.met(), &mut fallen);
     fall_listed(&books, listing, &fresh, &mut fallen);
