@@ -21,7 +21,8 @@ pub use held::apply_held_at;
 use standby_changes::Changes;
 use store_areas::Store;
 
-// Makes the change that `op`, one of those of a run, names.
+// Makes the change that `op`, one of those of a run, names. Inlined, so that what was read isn't copied first.
+#[inline(always)]
 pub fn apply(changes: &Changes, op: Op, words: &mut [u64], bytes: &mut [u8], max: usize)
     requires max_in_bounds { 16 + 2 * max ≤ length words.old }
     requires in_bounds { PlaceByte.ring ≤ length bytes.old }

@@ -14,6 +14,7 @@ impl Iterator for Ops<'_> {
 
     ghost remaining = { λ s. at_most (length (rest s.reader)) };
 
+    #[inline(always)]
     fn next(&mut self) -> Option<Op> {
         let mut reader = self.reader;
         let op = frame_op::read_op(&mut reader, self.protocol).ok()?;

@@ -14,6 +14,8 @@ use standby_segments::HeldChanges;
 use store_areas::Store;
 
 // Applies a run of changes to the session at place i, and leaves a commit pending, if its outgoing numbers follow on.
+// Never inlined: it keeps the run in registers, which in a caller's long function goes to memory in one width and comes back in another.
+#[inline(never)]
 pub fn commit_changes(changes: &Changes, store: &mut Store, place: usize, handle: u32) -> bool
     requires place_bound { place < used_of store.old.words.now }
     requires words_bound { count_of store.old.words.now < 64 }

@@ -170,6 +170,7 @@ pub fn on_whole(
 
 // A LastWhole: its changes are held too, and all of them are settled at once. Its own stand in the open segment, so only the words
 // that counted before count: one that lies past what was held would count with them.
+#[inline(never)]
 pub fn on_last_whole(
     changes: &AllChanges,
     store: &mut Store,

@@ -125,6 +125,7 @@ impl<'a> HeldChanges<'a> {
     }
 
     // No change is held: no segment is closed, and the first change of the open one can't be read.
+    #[inline(never)]
     pub fn is_none(&self) -> bool
         ensures { result ≡ is_empty (all_of self.now) }
     {

