@@ -67,7 +67,7 @@ impl LittleEndian for u16 {
     }
 
     fn put_at(self, out: &mut [u8], at: usize) -> usize {
-        copy(&self.to_le_bytes(), out, at)
+        store(&self.to_le_bytes(), out, at)
     }
 }
 
@@ -85,7 +85,7 @@ impl LittleEndian for u32 {
     }
 
     fn put_at(self, out: &mut [u8], at: usize) -> usize {
-        copy(&self.to_le_bytes(), out, at)
+        store(&self.to_le_bytes(), out, at)
     }
 }
 
@@ -112,18 +112,31 @@ impl LittleEndian for u64 {
     }
 
     fn put_at(self, out: &mut [u8], at: usize) -> usize {
-        copy(&self.to_le_bytes(), out, at)
+        store(&self.to_le_bytes(), out, at)
     }
 }
 
-// Copies s into out from a position on, and gives the position past it.
-pub fn copy(s: &[u8], out: &mut [u8], at: usize) -> usize
+// Puts the bytes of a number where it is to stand: of a length that is known where it is called, so one store.
+#[inline(always)]
+fn store(s: &[u8], out: &mut [u8], at: usize) -> usize
     requires { at + length s.now ≤ length out.old }
     ensures { Wrote out.old at s.now out.new result }
 {
     let end = at + s.len();
     out[at..end].copy_from_slice(s);
     end
+}
+
+// Copies s into out from a position on, and gives the position past it. Byte by byte: of a length that isn't known `copy_from_slice` calls `memmove`,
+// and the archive for C is to need `memcpy` and `memset` alone.
+pub fn copy(s: &[u8], out: &mut [u8], at: usize) -> usize
+    requires { at + length s.now ≤ length out.old }
+    ensures { Wrote out.old at s.now out.new result }
+{
+    for (i, &b) in s.iter().enumerate() {
+        out[at + i] = b;
+    }
+    at + s.len()
 }
 
 impl Writer<'_> {

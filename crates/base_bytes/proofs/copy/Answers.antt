@@ -1,14 +1,17 @@
-use Rattle.std.proofs.Common.{rules, refl, append_assoc, ◌+◌, length, take, drop}
+use Rattle.std.proofs.Common.{arith, refl, ◌∙◌, ◌+◌}
 use mathlib.Core.Path.{sym}
-use borrow.Rule.Slice.PartMut.{Post-is}
-use Rattle.base_laws.proofs.Little.{write_is}
+use lib.ListN.{length-set}
+use Rattle.base_bytes.proofs.Copies.{write_more, write_done}
 use Rattle.base_bytes.proofs.copy.Goals as goal
+
+pub loop-i-preserved : goal.loop-i-preserved
+loop-i-preserved c =
+    let i = c.loop-i.invariant in
+    (length-set _ _ _ ∙ i.0, sym (write_more _ _ _ _ (omega arith)) ∙ i.1)
 
 pub returns : goal.returns
 returns c =
-    let a = c.args in
     record {
-      bytes =
-          rw (write_is a.out.now a.at a.s.now (search rules), c.copy_from_slice.ensures.after, Post-is a.at (a.at + length a.s.now) a.out.now (search rules)) (sym (append_assoc (take a.at a.out.now) a.s.now (drop (a.at + length a.s.now) a.out.now)));
+      bytes = sym (write_done c.args.s.now c.loop-i.out (c.args.at + c.loop-i.i) c.loop-i.i (omega arith)) ∙ c.loop-i.invariant.1;
       past = refl;
     }
