@@ -35,7 +35,7 @@ holds "the header has every exported function and no other" diff "$place/names" 
 nm -g --defined-only --format=posix "$archive" | awk 'NF > 1 { print $1 }' | LC_ALL=C sort >"$place/defined"
 holds "the archive has these functions and no other name" diff "$place/names" "$place/defined"
 nm -u --format=posix "$archive" | awk 'NF > 1 { print $1 }' | sort -u >"$place/needed"
-holds "the archive needs nothing but memory functions of C" [ -z "$(grep -vxE 'memcpy|memmove|memset|memcmp|bcmp' "$place/needed")" ]
+holds "the archive needs nothing but memcpy and memset of C" [ -z "$(grep -vxE 'memcpy|memset' "$place/needed")" ]
 
 # Code, data and relocations of each object are the kit's, byte for byte, but for the names.
 contents() {
