@@ -7,8 +7,7 @@ use active_books::Opened;
 use base_refusals::Refusal;
 use frame_fields::Incarnation;
 use std::io;
-use std::str::SplitWhitespace;
-use vectors_script::{number, numbers, print_done, print_refusal};
+use vectors_script::{Fields, print_done, print_refusal};
 
 fn print_opened(rt: &impl Print, answer: Result<Opened, Refusal>) -> io::Result<()> {
     match answer {
@@ -38,15 +37,15 @@ fn call_listed(
     rt: &impl Print,
     area: &mut [u64],
     name: &str,
-    words: &mut SplitWhitespace<'_>,
+    mut fields: Fields<'_>,
 ) -> io::Result<()> {
     let incarnation = if name == "all" {
         Incarnation(0)
     } else {
-        Incarnation(number(words))
+        Incarnation(fields.number())
     };
     let mut room = [0u64; 600];
-    let listing = numbers(words, &mut room);
+    let listing = fields.numbers(&mut room);
     match name {
         "all" => print_done(rt, active_books_pass::all_fall_behind(area, listing)),
         "next" => print_picked(
@@ -65,38 +64,53 @@ fn call_one(
     rt: &impl Print,
     area: &mut [u64],
     name: &str,
-    words: &mut SplitWhitespace<'_>,
+    mut fields: Fields<'_>,
 ) -> io::Result<()> {
-    let first = number(words);
-    let incarnation = Incarnation(number(words));
+    let first = fields.number();
+    let incarnation = Incarnation(fields.number());
     match name {
         "behind" => print_done(rt, active_books::fall_behind(area, first)),
         "open" => print_opened(rt, active_books::opening(area, first)),
         "is" => print_says(rt, active_books::is_behind(area, first)),
         "close" => print_done(rt, active_books::closed(area, first)),
         "compared" => print_done(rt, active_books::caught_up(area, first, incarnation)),
-        "ended" => print_says(rt, active_books::ended(area, first, incarnation)),
         "acked" => print_done(rt, active_books::acknowledged(area, Incarnation(first))),
-        _ => print_done(
+        "pass" => print_done(
             rt,
             active_books_pass::behind_unless_compared_open(area, Incarnation(first)),
         ),
+        _ => print_says(rt, active_books::ended(area, first, incarnation)),
+    }
+}
+
+// The name of the call that a line asks for: its first letters say which.
+fn name(line: &[u8]) -> &'static str {
+    match line {
+        [b'a', b'l', ..] => "all",
+        [b'a', ..] => "acked",
+        [b'c', b'h', ..] => "check",
+        [b'c', b'l', ..] => "close",
+        [b'c', ..] => "compared",
+        [b'n', ..] => "next",
+        [b'm', ..] => "make",
+        [b'p', ..] => "pass",
+        [b'b', ..] => "behind",
+        [b'o', ..] => "open",
+        [b'i', ..] => "is",
+        _ => "ended",
     }
 }
 
 // One line on the area that is lent, which another line may replace: the handle, the area and the line stay apart.
 fn replay(rt: &impl Print, area: &mut [u64], line: &[u8]) -> io::Result<()> {
-    let mut words = vectors_script::words(line);
-    let Some(name) = words.next() else {
-        return Ok(());
-    };
-    match name {
+    let fields = Fields::behind_name(line);
+    match name(line) {
         "make" => match active_books::make(area) {
             Ok(()) => Ok(()),
             Err(refusal) => print_refusal(rt, refusal.number()),
         },
-        "all" | "next" | "check" => call_listed(rt, area, name, &mut words),
-        _ => call_one(rt, area, name, &mut words),
+        name @ ("all" | "next" | "check") => call_listed(rt, area, name, fields),
+        name => call_one(rt, area, name, fields),
     }
 }
 

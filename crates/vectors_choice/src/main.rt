@@ -7,11 +7,10 @@ use base_refusals::Refusal;
 use frame_fields::Epoch;
 use standby_choice::{CopyState, LentCopy};
 use std::io;
-use std::str::SplitWhitespace;
 use store_areas::{COUNT_WORDS, Shape};
 use store_place::byte::RING;
 use store_place::word;
-use vectors_script::{byte, number};
+use vectors_script::{Fields, rest};
 
 const SHAPE: Shape = Shape {
     places: 3,
@@ -21,18 +20,18 @@ const SHAPE: Shape = Shape {
 
 // The copy whose numbers come next; its store is laid out in the two areas.
 fn copy<'a>(
-    numbers: &mut SplitWhitespace<'_>,
+    fields: &mut Fields<'_>,
     words: &'a mut [u64; 114],
     bytes: &'a mut [u8; 672],
 ) -> LentCopy<'a> {
-    let listed = byte(numbers);
-    let checked = byte(numbers);
-    let epoch = Epoch(number(numbers));
-    words[0] = number(numbers);
+    let listed = fields.byte();
+    let checked = fields.byte();
+    let epoch = Epoch(fields.number());
+    words[0] = fields.number();
     for place in 0..3 {
         let at = COUNT_WORDS + word::ENTRIES * place;
-        bytes[RING * place] = byte(numbers);
-        words[at + word::NEXT_OUTGOING] = number(numbers);
+        bytes[RING * place] = fields.byte();
+        words[at + word::NEXT_OUTGOING] = fields.number();
         words[at + word::BEGIN_LEN] = 1;
     }
     LentCopy {
@@ -49,18 +48,18 @@ fn copy<'a>(
 
 // One set.
 fn choose(line: &[u8]) -> Result<usize, Refusal> {
-    let mut numbers = vectors_script::words(vectors_script::rest(line));
+    let mut fields = Fields::of(rest(line));
     let (mut w0, mut b0) = ([0; 114], [0; 672]);
     let (mut w1, mut b1) = ([0; 114], [0; 672]);
     let (mut w2, mut b2) = ([0; 114], [0; 672]);
     let (mut w3, mut b3) = ([0; 114], [0; 672]);
     let (mut w4, mut b4) = ([0; 114], [0; 672]);
     standby_choice::choose(&[
-        copy(&mut numbers, &mut w0, &mut b0),
-        copy(&mut numbers, &mut w1, &mut b1),
-        copy(&mut numbers, &mut w2, &mut b2),
-        copy(&mut numbers, &mut w3, &mut b3),
-        copy(&mut numbers, &mut w4, &mut b4),
+        copy(&mut fields, &mut w0, &mut b0),
+        copy(&mut fields, &mut w1, &mut b1),
+        copy(&mut fields, &mut w2, &mut b2),
+        copy(&mut fields, &mut w3, &mut b3),
+        copy(&mut fields, &mut w4, &mut b4),
     ])
 }
 

@@ -5,7 +5,7 @@
 
 use active_lag::ReplicatedLog;
 use std::io;
-use vectors_script::number;
+use vectors_script::{Fields, digits, rest};
 
 // The numbers that went: the first of those that waited, and then the one pushed.
 fn print_gone(rt: &impl Print, queue: ReplicatedLog, last: u64, gone: usize) -> io::Result<()> {
@@ -47,15 +47,14 @@ fn push(
 
 // A new queue, or one in which so many zeros wait, and a push for each further number of the line.
 fn run_line(rt: &impl Print, line: &[u8]) -> io::Result<()> {
-    let mut words = vectors_script::words(line);
-    let letter = words.next();
-    let max_lag = number(&mut words);
-    let mut queue = ReplicatedLog::new(number(&mut words));
-    if letter == Some("q") {
-        queue.count = number(&mut words) as usize;
+    let mut fields = Fields::of(rest(line));
+    let max_lag = fields.number();
+    let mut queue = ReplicatedLog::new(fields.number());
+    if !line.starts_with(b"Q") {
+        queue.count = fields.number() as usize;
     }
-    for word in words {
-        queue = push(rt, queue, word.parse().unwrap_or(0), max_lag)?;
+    for field in fields.left.split_inclusive(|b| *b == b' ') {
+        queue = push(rt, queue, digits(field), max_lag)?;
     }
     Ok(())
 }

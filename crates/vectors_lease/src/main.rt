@@ -5,13 +5,13 @@
 
 use c_lease::{Due, word};
 use std::io;
-use vectors_script::{number, print_refusal};
+use vectors_script::{Fields, print_refusal};
 
-// The byte of an outcome by its name.
-fn outcome(name: &str) -> u8 {
-    match name {
-        "ok" => 0,
-        "failed" => 1,
+// The byte of an outcome, by the first letter of its name.
+fn outcome(name: &[u8]) -> u8 {
+    match name.first() {
+        Some(b'o') => 0,
+        Some(b'f') => 1,
         _ => 2,
     }
 }
@@ -36,21 +36,21 @@ fn print_tried(rt: &impl Print, refusal: u8, lease: &[u64; 4]) -> io::Result<()>
     }
 }
 
-// One line on a lease.
+// One line on a lease: its first letter says what it is.
 fn call(rt: &impl Print, line: &[u8], lease: &mut [u64; 4]) -> io::Result<()> {
-    let mut words = vectors_script::words(line);
-    match words.next().unwrap_or("") {
-        "due" => print_due(rt, c_lease::wz_lease_renewal(lease, number(&mut words))),
-        "try" => {
-            let started = number(&mut words);
-            let time = number(&mut words);
-            let outcome = outcome(words.next().unwrap_or(""));
+    let mut fields = Fields::behind_name(line);
+    match line.first() {
+        Some(b'd') => print_due(rt, c_lease::wz_lease_renewal(lease, fields.number())),
+        Some(b't') => {
+            let started = fields.number();
+            let time = fields.number();
+            let outcome = outcome(fields.field());
             let refusal = c_lease::wz_lease_attempt(lease, started, time, outcome);
             print_tried(rt, refusal, lease)
         }
-        duration => {
-            let duration = duration.parse().unwrap_or(0);
-            c_lease::wz_lease_new(lease, duration, number(&mut words));
+        _ => {
+            let duration = vectors_script::digits(line);
+            c_lease::wz_lease_new(lease, duration, fields.number());
             Ok(())
         }
     }

@@ -7,7 +7,7 @@
 use base_refusals::Refusal;
 use frame_fields::CommitNumber;
 use std::io;
-use vectors_script::{number, print_done, print_refusal, small};
+use vectors_script::{Fields, print_done, print_refusal};
 
 fn print_figure(rt: &impl Print, figure: Result<CommitNumber, Refusal>) -> io::Result<()> {
     match figure {
@@ -23,28 +23,34 @@ fn make(rt: &impl Print, area: &mut [u64], members: u64, needed: u64) -> io::Res
     }
 }
 
-// One line on the area that is lent, which another line may replace: the handle, the area and the line stay apart.
+// One line on the area that is lent, which another line may replace: the handle, the area and the line stay apart. A name's first letters say which it is.
 fn replay(rt: &impl Print, area: &mut [u64], line: &[u8]) -> io::Result<()> {
-    let mut words = vectors_script::words(line);
-    match words.next().unwrap_or("") {
-        "bind" => print_done(rt, active_quorum::bind(area, small(&mut words))),
-        "sent" => {
-            let handle = small(&mut words);
-            let sent = CommitNumber(number(&mut words));
-            print_done(rt, active_quorum::sent(area, handle, sent))
+    let [first, second, ..] = *line else {
+        return Ok(());
+    };
+    let mut fields = Fields::behind_name(line);
+    match (first, second) {
+        (0..=b'`', _) => {
+            let members = vectors_script::digits(line);
+            make(rt, area, members, fields.number())
         }
-        "ack" => {
-            let member = number(&mut words) as usize;
-            let handle = small(&mut words);
-            let held = CommitNumber(number(&mut words));
+        (b'b', _) => print_done(rt, active_quorum::bind(area, fields.small())),
+        (b'f', _) => print_figure(rt, active_quorum::figure(area, fields.small())),
+        (b'a', _) => {
+            let member = fields.number() as usize;
+            let handle = fields.small();
+            let held = CommitNumber(fields.number());
             print_done(rt, active_quorum::acknowledged(area, member, handle, held))
         }
-        "stale" => {
-            let member = number(&mut words) as usize;
+        (_, b'e') => {
+            let handle = fields.small();
+            let sent = CommitNumber(fields.number());
+            print_done(rt, active_quorum::sent(area, handle, sent))
+        }
+        _ => {
+            let member = fields.number() as usize;
             print_done(rt, active_quorum::stale_epoch(area, member))
         }
-        "figure" => print_figure(rt, active_quorum::figure(area, small(&mut words))),
-        members => make(rt, area, members.parse().unwrap_or(0), number(&mut words)),
     }
 }
 

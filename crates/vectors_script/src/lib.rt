@@ -1,4 +1,4 @@
-// What the programs share that run recorded lines: a script read from standard input, the words of a line, and the area that is lent.
+// What the programs share that run recorded lines: a script read from standard input, the fields or the words of a line, and the area that is lent.
 #![tactic(auto)]
 
 ghost use Rattle.std.specs.Prelude.{◌≤◌, IfOk, length};
@@ -33,10 +33,85 @@ pub fn read_script<'a>(rt: &impl Input, room: &'a mut [u8]) -> io::Result<&'a [u
     Ok(&room[..n])
 }
 
-// What stands behind a line's letter and one more byte, without the line's end.
+// What stands behind a line's letter and one more byte, without the line's end; none where the line is shorter.
+pub fn text(line: &[u8]) -> Option<&[u8]> {
+    line.strip_suffix(b"\n").unwrap_or(line).get(2..)
+}
+
+// The same, empty where the line is shorter.
 pub fn rest(line: &[u8]) -> &[u8] {
-    let line = line.strip_suffix(b"\n").unwrap_or(line);
-    line.get(2..).unwrap_or(&[])
+    text(line).unwrap_or(&[])
+}
+
+// The number that a field begins with, up to the first byte below the digits. A byte above them counts by its low half, and of more digits
+// than a u64 has the last count: so the scripts have always been read.
+pub fn digits(field: &[u8]) -> u64 {
+    field
+        .iter()
+        .take_while(|byte| b'0' <= **byte)
+        .fold(0u64, |value, byte| {
+            (value % 1_844_674_407_370_955_162 * 10).wrapping_add(u64::from(byte % 16))
+        })
+}
+
+// The fields of a line that are left. Each ends with one blank, or where the line does: between two blanks there is an empty one.
+#[derive(Clone, Copy)]
+pub struct Fields<'a> {
+    pub left: &'a [u8],
+}
+
+impl<'a> Fields<'a> {
+    // The fields of a text.
+    pub fn of(text: &'a [u8]) -> Fields<'a> {
+        Fields { left: text }
+    }
+
+    // The fields of a line behind its first one.
+    pub fn behind_name(line: &'a [u8]) -> Fields<'a> {
+        let mut fields = Fields::of(line);
+        let _name = fields.field();
+        fields
+    }
+
+    // The next field and the blank behind it, empty where there is none.
+    pub fn field(&mut self) -> &'a [u8] {
+        let left = self.left;
+        let field = left
+            .split_inclusive(|byte| *byte == b' ')
+            .next()
+            .unwrap_or(&[]);
+        self.left = left.get(field.len()..).unwrap_or(&[]);
+        field
+    }
+
+    // The next field as a number, 0 where there is none.
+    pub fn number(&mut self) -> u64 {
+        digits(self.field())
+    }
+
+    // The next field as a number of 32 bits: the low ones.
+    pub fn small(&mut self) -> u32 {
+        (self.number() & 0xffff_ffff) as u32
+    }
+
+    // The next field as a byte: the low bits.
+    pub fn byte(&mut self) -> u8 {
+        (self.number() & 0xff) as u8
+    }
+
+    // The numbers that are left, as many as there is room for.
+    pub fn numbers<'b>(&self, room: &'b mut [u64]) -> &'b [u64] {
+        let mut count: usize = 0;
+        for (place, field) in room
+            .iter_mut()
+            .zip(self.left.split_inclusive(|byte| *byte == b' '))
+        {
+            *place = digits(field);
+            // At most as many as there are places, so the sum never saturates.
+            count = count.saturating_add(1);
+        }
+        room.get(..count).unwrap_or(&[])
+    }
 }
 
 // The words of a text, none where it is not UTF-8.
@@ -86,24 +161,28 @@ pub fn print_done(rt: &impl Print, answer: Result<(), Refusal>) -> io::Result<()
     }
 }
 
-// A line on the area that is lent: `word I V` sets a word, and what else there is goes to the call.
+// A line on the area that is lent: `word I V` sets a word, and what else there is goes to the call. A line's first letters say what it is, so one of a
+// single byte is left out.
 fn replay_on<R, F>(rt: &R, area: &mut [u64], line: &[u8], call: &F) -> io::Result<()>
 where
     F: Fn(&R, &mut [u64], &[u8]) -> io::Result<()>,
     requires { F.IsAlwaysCallable call.now }
 {
-    let Some(rest) = line.strip_prefix(b"word ") else {
+    if line.len() < 2 {
+        return Ok(());
+    }
+    if !line.starts_with(b"w") {
         return call(rt, area, line);
-    };
-    let mut words = words(rest);
-    let at = number(&mut words) as usize;
+    }
+    let mut fields = Fields::behind_name(line);
+    let at = fields.number() as usize;
     if let Some(word) = area.get_mut(at) {
-        *word = number(&mut words);
+        *word = fields.number();
     }
     Ok(())
 }
 
-// Calls with each line and the area that is lent: after `lend 0` the short one, after `lend 1` the whole one again.
+// Calls with each line, without its end, and the area that is lent: after `lend 0` the short one, after `lend 1` the whole one again.
 pub fn replay_lent<R, F>(
     rt: &R,
     script: &[u8],
@@ -117,8 +196,9 @@ where
 {
     let mut lends_whole = true;
     for line in script.split_inclusive(|b| *b == b'\n') {
-        if let Some(lent) = line.strip_prefix(b"lend ") {
-            lends_whole = lent.starts_with(b"1");
+        let line = line.strip_suffix(b"\n").unwrap_or(line);
+        if line.starts_with(b"l") {
+            lends_whole = Fields::behind_name(line).number() != 0;
         } else if lends_whole {
             replay_on(rt, whole, line, &call)?;
         } else {
