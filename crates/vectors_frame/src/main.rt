@@ -32,9 +32,11 @@ fn print_frame(rt: &impl Print, frame: Frame, src: &[u8]) -> io::Result<()> {
     let mut out = [0u8; 8192];
     match frame.encode(Protocol::first(), src, &mut out) {
         Ok(len) => {
-            for byte in out.get(..len).unwrap_or(&[]) {
-                print!(rt; "{byte:02x}")?;
-            }
+            let mut digits = [0u8; 16_384];
+            // The frame lies in the area, so the least is its length.
+            let written = &out[..len.min(out.len())];
+            base_hex::put_hex(written, &mut digits);
+            rt.write_all(&digits[..2 * written.len()])?;
             println!(rt; "")
         }
         Err(error) => println!(rt; "not written: {}", Refusal::from(error).number()),
