@@ -11,7 +11,7 @@ use active::Line;
 use frame_stamp::Protocol;
 use std::io;
 use store_areas::Shape;
-use vectors_script::{number, rest, small, words};
+use vectors_script::{Fields, rest, text};
 use vectors_sendings::Stored;
 
 // The store's shape and the place that commands are about.
@@ -37,18 +37,18 @@ fn sending(
     place: usize,
     out: &mut [u8],
 ) -> io::Result<()> {
-    let mut numbers = words(rest(line));
+    let mut fields = Fields::of(rest(line));
     let on = line_of(line);
     if line.starts_with(b"x") || line.starts_with(b"X") {
-        let last = number(&mut numbers);
-        let from = number(&mut numbers);
+        let last = fields.number();
+        let from = fields.number();
         return vectors_sendings::odd(rt, on, Protocol::FIRST, stored, place, last, from, out);
     }
-    let handle = small(&mut numbers);
-    let epoch = number(&mut numbers);
-    let last = number(&mut numbers);
+    let handle = fields.small();
+    let epoch = fields.number();
+    let last = fields.number();
     let short = if line.starts_with(b"v") || line.starts_with(b"V") {
-        number(&mut numbers) as usize
+        fields.number() as usize
     } else {
         out.len()
     };
@@ -76,24 +76,24 @@ fn command(
     at: At,
 ) -> io::Result<At> {
     let shape = at.shape;
-    let text = rest(line);
-    let mut numbers = vectors_script::words(text);
-    match line.first() {
-        Some(b'n') => {
-            let places = small(&mut numbers);
-            let shape = vectors_fill::make(words, bytes, places, &mut numbers);
+    let mut fields = Fields::of(rest(line));
+    match (line.first(), text(line)) {
+        (Some(b'n'), _) => {
+            let places = fields.small();
+            let (cap, messages) = (fields.small(), fields.small());
+            let shape = vectors_fill::make(words, bytes, places, cap, messages);
             Ok(At { shape, place: 0 })
         }
-        Some(b'o') => {
+        (Some(b'o'), Some(text)) => {
             // Where it wasn't opened, a place that no store has: each call refuses it.
             let place = vectors_fill::open(words, bytes, shape, text).unwrap_or(usize::MAX);
             Ok(At { shape, place })
         }
-        Some(b'p') => Ok(At {
+        (Some(b'p'), _) => Ok(At {
             shape,
-            place: number(&mut numbers) as usize,
+            place: fields.number() as usize,
         }),
-        Some(b'w' | b'v' | b'x' | b'W' | b'V' | b'X') => {
+        (Some(b'w' | b'v' | b'x' | b'W' | b'V' | b'X'), _) => {
             let stored = Stored {
                 words,
                 bytes,

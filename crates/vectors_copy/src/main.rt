@@ -10,6 +10,7 @@
 #![tactic(auto)]
 
 use active::{Line, Sending};
+use base_refusals::Refusal;
 use frame_fields::{CommitNumber, Epoch, Incarnation, Summary};
 use frame_reader::Span;
 use frame_stamp::Protocol;
@@ -18,7 +19,7 @@ use standby_state::{Answer, Replica, Settings};
 use std::io;
 use store_areas::Shape;
 use store_log::fnv;
-use vectors_script::{byte, number, small, words};
+use vectors_script::{Fields, print_refusal, rest, text};
 
 // The stores' shape, what the standby keeps, the sending, the length of the frame that it gave last, and B's hash.
 #[derive(Clone, Copy)]
@@ -187,24 +188,25 @@ fn begin(
     way: Way,
     before: Option<u64>,
 ) -> io::Result<Way> {
-    let mut numbers = vectors_script::words(vectors_script::rest(line));
+    let mut fields = Fields::of(rest(line));
     let on = if line.starts_with(b"W") {
         Line::Branch
     } else {
         Line::HeadOffice
     };
     let version = Protocol::of_byte(way.replica.version2).number();
-    let handle = small(&mut numbers);
-    let epoch = Epoch(number(&mut numbers));
-    let last = CommitNumber(number(&mut numbers));
+    let handle = fields.small();
+    let epoch = Epoch(fields.number());
+    let last = CommitNumber(fields.number());
     match Sending::begin(on, version, way.shape, words, bytes, 0, handle, epoch, last) {
         Ok(sending) => Ok(Way {
             sending,
             before,
             ..way
         }),
+        Err(Refusal::NumbersPast | Refusal::RulesBroken) => Ok(Way { before, ..way }),
         Err(refusal) => {
-            vectors_script::print_refusal(rt, refusal.number())?;
+            print_refusal(rt, refusal.number())?;
             Ok(way)
         }
     }
@@ -221,7 +223,7 @@ fn take(rt: &impl Print, words: &[u64], bytes: &[u8], out: &mut [u8], way: Way) 
             });
         }
         Ok(None) => println!(rt; "done")?,
-        Err(refusal) => vectors_script::print_refusal(rt, refusal.number())?,
+        Err(refusal) => print_refusal(rt, refusal.number())?,
     }
     Ok(way)
 }
@@ -234,9 +236,10 @@ fn make(
     words_b: &mut [u64],
     bytes_b: &[u8],
 ) -> Way {
-    let mut numbers = words(line);
-    let places = small(&mut numbers);
-    let shape = vectors_fill::make(words_a, bytes_a, places, &mut numbers);
+    let mut fields = Fields::of(rest(line));
+    let places = fields.small();
+    let (cap, messages) = (fields.small(), fields.small());
+    let shape = vectors_fill::make(words_a, bytes_a, places, cap, messages);
     c_store::store_make(words_b, bytes_b, shape);
     Way::new(shape)
 }
@@ -256,30 +259,32 @@ fn command(
 ) -> io::Result<Way> {
     let shape = way.shape;
     let a = hash(words_a, bytes_a, shape);
-    let rest = vectors_script::rest(line);
-    match line.first() {
-        Some(b'n') => Ok(make(rest, words_a, bytes_a, words_b, bytes_b)),
-        Some(b'w' | b'W') => {
+    match (line.first(), text(line)) {
+        (Some(b'n'), _) => Ok(make(line, words_a, bytes_a, words_b, bytes_b)),
+        (Some(b'w' | b'W'), _) => {
             let before = hash(words_b, bytes_b, shape);
             begin(rt, line, words_a, bytes_a, way, before)
         }
-        Some(b'f') => take(rt, words_a, bytes_a, out, way),
-        Some(b'h') => hand_digits(rt, rest, words_b, bytes_b, holds, ends, way, a),
-        Some(b'=') => hand_with(rt, 0, 0, out, words_b, bytes_b, holds, ends, way, a),
-        Some(b'x') => {
-            let mut numbers = words(rest);
-            let at = number(&mut numbers) as usize;
-            let n = byte(&mut numbers);
+        (Some(b'f'), _) => take(rt, words_a, bytes_a, out, way),
+        (Some(b'='), _) => hand_with(rt, 0, 0, out, words_b, bytes_b, holds, ends, way, a),
+        (Some(b'x'), _) => {
+            let mut fields = Fields::of(rest(line));
+            let at = fields.number() as usize;
+            let n = fields.byte();
             hand_with(rt, at, n, out, words_b, bytes_b, holds, ends, way, a)
         }
-        Some(b'o') => {
-            vectors_fill::open(words_a, bytes_a, shape, rest);
+        (Some(b'h'), Some(digits)) => {
+            hand_digits(rt, digits, words_b, bytes_b, holds, ends, way, a)
+        }
+        (Some(b'o'), Some(target)) => {
+            vectors_fill::open(words_a, bytes_a, shape, target);
             Ok(way)
         }
-        _ => {
+        (Some(b'm' | b'l' | b'g' | b'b' | b't' | b'k'), Some(_)) => {
             vectors_fill::change(words_a, bytes_a, shape, 0, line, out);
             Ok(way)
         }
+        _ => Ok(way),
     }
 }
 

@@ -2,9 +2,8 @@
 // here: the borrow check doesn't cover a call that is lent one field to write and another to read.
 #![tactic(auto)]
 
-use std::str::SplitWhitespace;
 use store_areas::Shape;
-use vectors_script::{number, rest, small};
+use vectors_script::{Fields, rest, text};
 
 // No store yet.
 pub const NO_SHAPE: Shape = Shape {
@@ -13,10 +12,8 @@ pub const NO_SHAPE: Shape = Shape {
     messages: 0,
 };
 
-// A new store without sessions, with so many places, and with the message bytes and the messages of a line.
-pub fn make(words: &mut [u64], bytes: &[u8], places: u32, line: &mut SplitWhitespace<'_>) -> Shape {
-    let cap = small(line);
-    let messages = small(line);
+// A new store without sessions: its shape, from how many places, message bytes and messages it has.
+pub fn make(words: &mut [u64], bytes: &[u8], places: u32, cap: u32, messages: u32) -> Shape {
     let shape = Shape {
         places,
         bytes: cap,
@@ -57,12 +54,12 @@ pub fn record_made(
 
 // The change of numbers that a line asks for; one that can't be made is left out.
 fn change_numbers(words: &mut [u64], bytes: &[u8], shape: Shape, place: usize, line: &[u8]) {
-    let mut numbers = vectors_script::words(rest(line));
-    let n = number(&mut numbers);
+    let mut fields = Fields::of(rest(line));
+    let n = fields.number();
     match line.first() {
         Some(b'i') => c_changes::store_set_next_incoming(words, bytes, shape, place, n),
         Some(b'b') => {
-            let flight = number(&mut numbers);
+            let flight = fields.number();
             c_changes::store_set_next_incoming_in_flight(words, bytes, shape, place, n, flight)
         }
         Some(b'f') => c_changes::store_set_in_flight(words, bytes, shape, place, n),
@@ -74,7 +71,7 @@ fn change_numbers(words: &mut [u64], bytes: &[u8], shape: Shape, place: usize, l
 
 // The change that a line asks for: `i N` SetNextIncoming, `b N F` SetNextIncomingInFlight, `f N` SetInFlight, `g N` a Record without
 // message, `z` Reset, `t:TEXT` the stamp, `k:TEXT` the marks, `m:TEXT` a Record with this message, `l LENGTH` one with a made message.
-// One that can't be made is left out.
+// One that can't be made is left out, and so is a text of a line that ends with its letter.
 pub fn change(
     words: &mut [u64],
     bytes: &mut [u8],
@@ -83,19 +80,18 @@ pub fn change(
     line: &[u8],
     room: &mut [u8],
 ) {
-    let text = rest(line);
-    match line.first() {
-        Some(b't') => {
+    match (line.first(), text(line)) {
+        (Some(b't'), Some(text)) => {
             c_changes::store_set_created_at(words, bytes, shape, place, text);
         }
-        Some(b'k') => {
+        (Some(b'k'), Some(text)) => {
             c_changes::store_set_marks(words, bytes, shape, place, text);
         }
-        Some(b'm') => {
+        (Some(b'm'), Some(text)) => {
             c_changes::store_record(words, bytes, shape, place, text);
         }
-        Some(b'l') => {
-            let len = number(&mut vectors_script::words(text)) as usize;
+        (Some(b'l'), _) => {
+            let len = vectors_script::digits(rest(line)) as usize;
             record_made(words, bytes, shape, place, len, room);
         }
         _ => change_numbers(words, bytes, shape, place, line),

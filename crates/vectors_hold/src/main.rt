@@ -233,7 +233,9 @@ fn frame_of(area: &mut [u8], line: &[u8]) -> usize {
 fn begin(line: &[u8], words: &mut [u64], bytes: &[u8]) -> Way {
     let mut numbers = vectors_script::words(line);
     let places = small(&mut numbers);
-    let shape = vectors_fill::make(words, bytes, places, &mut numbers);
+    let cap = small(&mut numbers);
+    let messages = small(&mut numbers);
+    let shape = vectors_fill::make(words, bytes, places, cap, messages);
     let handles = number(&mut numbers) as usize;
     let hold = number(&mut numbers) as usize;
     let ends = number(&mut numbers) as usize;

@@ -8,7 +8,10 @@
 use c_import::Built;
 use std::io;
 use store_areas::Shape;
-use vectors_script::{byte, number, small};
+use vectors_script::{Fields, rest};
+
+// How long a file may be.
+const AREA: usize = 8192;
 
 // A file of messages in a lent area: its first `len` bytes.
 #[derive(Drop)]
@@ -25,21 +28,22 @@ impl File<'_> {
         }
     }
 
-    // Puts a text behind the file, its bytes as the script writes them.
+    // Puts a text behind the file, its bytes as the script writes them. Behind a full area it begins anew, and of a text that goes past the area's end
+    // only what fits is written.
     fn append(&mut self, text: &[u8]) {
-        let end = self.len.saturating_add(text.len());
-        let Some(room) = self.area.get_mut(self.len..end) else {
-            return;
-        };
-        for (byte, written) in room.iter_mut().zip(text) {
-            *byte = match *written {
-                b'|' => 1,
-                b'~' => 128,
-                b'^' => 10,
-                other => other,
-            };
+        let start = self.len % AREA;
+        for part in text.chunks(AREA) {
+            let room = self.area.get_mut(start..).unwrap_or(&mut []);
+            for (byte, written) in room.iter_mut().zip(part) {
+                *byte = match *written {
+                    b'|' => 1,
+                    b'~' => 128,
+                    b'^' => 10,
+                    other => other,
+                };
+            }
         }
-        self.len = end;
+        self.len = start + text.len() % AREA;
     }
 }
 
@@ -116,22 +120,22 @@ fn command(
     file: &mut File<'_>,
     shape: Shape,
 ) -> io::Result<Shape> {
-    let rest = vectors_script::rest(line);
-    let mut numbers = vectors_script::words(rest);
+    let mut fields = Fields::of(rest(line));
     match line.first() {
         Some(b'n') => {
-            let places = small(&mut numbers);
-            return Ok(vectors_fill::make(words, bytes, places, &mut numbers));
+            let places = fields.small();
+            let (cap, messages) = (fields.small(), fields.small());
+            return Ok(vectors_fill::make(words, bytes, places, cap, messages));
         }
         Some(b'x') => file.len = 0,
-        Some(b'a') => file.append(rest),
+        Some(b'a') => file.append(rest(line)),
         Some(b's') => {
-            let at = number(&mut numbers) as usize;
-            file.set(at, byte(&mut numbers));
+            let at = fields.number() as usize;
+            file.set(at, fields.byte());
         }
         _ => {
-            let key = number(&mut numbers);
-            if let Some(front) = file.area.get(..number(&mut numbers) as usize) {
+            let key = fields.number();
+            if let Some(front) = file.area.get(..fields.number() as usize) {
                 import(rt, words, bytes, shape, key, front)?;
             }
         }
@@ -144,7 +148,7 @@ fn main(rt: HostRuntime) -> io::Result<()> {
     let script = vectors_script::read_script(&rt, &mut room)?;
     let mut words = [5u64; 220];
     let mut bytes = [9u8; 8192];
-    let mut area = [0u8; 8192];
+    let mut area = [0u8; AREA];
     let mut file = File {
         area: &mut area,
         len: 0,

@@ -1,17 +1,16 @@
 // Runs a script: fills a session and lists its messages by resend ranges. What it must write was made by tests/make/resend_vectors.py,
 // which holds each message against every range, and which also wrote the script. A line is a letter, a character, and what it takes:
 // `n C M` a new store with one session, `l LENGTH` a Record with a made message, `g N` one without message, `z` Reset,
-// `G PLACE ENTRIES FIRST LAST ..` a request for the session at a place, into an area of so many entries.
+// `G PLACE ENTRIES FIRST LAST ..` a request for the session at a place, into an area of so many entries, and so is any other line.
 // The areas and their shape are not one struct, as in vectors_fill.
 // Each program has its own areas; the loop over the lines is all that they share.
 #![tactic(auto)]
 
 use base_refusals::Refusal;
 use std::io;
-use std::str::SplitWhitespace;
 use store_areas::Shape;
 use store_resend::{Listed, Tally};
-use vectors_script::{number, numbers};
+use vectors_script::{Fields, rest};
 
 // What each word of an area is before it is lent.
 const LENT: u64 = 7;
@@ -67,16 +66,16 @@ fn print_answer(
 // A request, into an area of at most 72 entries.
 fn request(
     rt: &impl Print,
-    mut line: SplitWhitespace<'_>,
+    mut fields: Fields<'_>,
     words: &[u64],
     bytes: &[u8],
     shape: Shape,
 ) -> io::Result<()> {
     let mut ranges = [0u64; 132];
     let mut entries = [LENT; 432];
-    let place = number(&mut line) as usize;
-    let room = number(&mut line) as usize;
-    let ranges = numbers(&mut line, &mut ranges);
+    let place = fields.number() as usize;
+    let room = fields.number() as usize;
+    let ranges = fields.numbers(&mut ranges);
     let listed = store_resend::list(
         words,
         bytes,
@@ -96,18 +95,18 @@ fn command(
     bytes: &mut [u8],
     shape: Shape,
 ) -> io::Result<Shape> {
-    let mut numbers = vectors_script::words(vectors_script::rest(line));
+    let mut fields = Fields::of(rest(line));
     match line.first() {
         Some(b'n') => {
-            let made = vectors_fill::make(words, bytes, 1, &mut numbers);
+            let made = vectors_fill::make(words, bytes, 1, fields.small(), fields.small());
             vectors_fill::open(words, bytes, made, b"B");
             return Ok(made);
         }
-        Some(b'G') => request(rt, numbers, words, bytes, shape)?,
-        _ => {
+        Some(b'l' | b'g' | b'z') => {
             let mut room = [0u8; 1100];
             vectors_fill::change(words, bytes, shape, 0, line, &mut room);
         }
+        _ => request(rt, fields, words, bytes, shape)?,
     }
     Ok(shape)
 }

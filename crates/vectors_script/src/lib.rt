@@ -134,20 +134,6 @@ pub fn byte(words: &mut SplitWhitespace<'_>) -> u8 {
     (number(words) & 0xff) as u8
 }
 
-// The numbers that are left in a line, as many as there is room for.
-pub fn numbers<'a>(words: &mut SplitWhitespace<'_>, room: &'a mut [u64]) -> &'a [u64] {
-    let mut count: usize = 0;
-    for place in &mut *room {
-        let Some(word) = words.next() else {
-            break;
-        };
-        *place = word.parse().unwrap_or(0);
-        // At most as many as there are places, so the sum never saturates.
-        count = count.saturating_add(1);
-    }
-    room.get(..count).unwrap_or(&[])
-}
-
 // A refusal as every program writes it: by its number, as an Answer of C has it.
 pub fn print_refusal(rt: &impl Print, number: u8) -> io::Result<()> {
     println!(rt; "R {number}")

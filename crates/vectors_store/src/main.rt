@@ -9,7 +9,19 @@
 use std::io;
 use store_areas::{Shape, View};
 use store_log::{FoundMessage, fnv};
-use vectors_script::{number, small};
+
+// The shape before the first `n`: its areas are lent, but nothing is stored.
+const NO_SESSION: Shape = Shape {
+    places: 2,
+    ..vectors_fill::NO_SHAPE
+};
+
+// A number in digits, of which the last nine count, and a byte above them by its low half: so the scripts have always been read.
+fn number(digits: &[u8]) -> u32 {
+    digits.iter().fold(0u32, |value, byte| {
+        value % 100_000_000 * 10 + u32::from(byte % 16)
+    })
+}
 
 // Records messages of len bytes under the next numbers.
 fn record_many(words: &mut [u64], bytes: &mut [u8], shape: Shape, len: usize, count: u32) {
@@ -52,37 +64,41 @@ fn command(
     bytes: &mut [u8],
     shape: Shape,
 ) -> io::Result<Shape> {
-    let rest = vectors_script::rest(line);
-    let mut numbers = vectors_script::words(rest);
+    let mut numbers = vectors_script::rest(line)
+        .split(|byte| *byte < b'0')
+        .map(number);
+    let first = numbers.next().unwrap_or(0);
+    let second = numbers.next().unwrap_or(0);
     match line.first() {
         Some(b'n') => {
-            let made = vectors_fill::make(words, bytes, 2, &mut numbers);
+            let made = vectors_fill::make(words, bytes, 2, first, second);
             vectors_fill::open(words, bytes, made, b"B");
             vectors_fill::open(words, bytes, made, b"C");
             return Ok(made);
         }
-        Some(b'r') => {
-            let len = number(&mut numbers) as usize;
-            record_many(words, bytes, shape, len, small(&mut numbers));
-        }
+        Some(b'r') => record_many(words, bytes, shape, first as usize, second),
         Some(b'g') => {
             let next = c_store::store_next_outgoing(words, bytes, shape, 0).value;
-            let seq = next.wrapping_add(number(&mut numbers));
+            let seq = next.wrapping_add(u64::from(first));
             c_changes::store_record_none(words, bytes, shape, 0, seq);
         }
         Some(b'z') => {
             c_changes::store_reset(words, bytes, shape, 0);
         }
         Some(b'p') => {
-            c_store::store_take_over(words, bytes, shape, 0, number(&mut numbers));
+            c_store::store_take_over(words, bytes, shape, 0, u64::from(first));
         }
         Some(b'l') => list(rt, words, bytes, shape)?,
         Some(b'h') => {
-            let n = number(&mut numbers);
+            let n = u64::from(first);
             let hash = c_store::store_last_outgoing(words, bytes, shape, 0, n);
             println!(rt; "{:016x}", hash.value)?;
         }
-        _ => println!(rt; "{:016x}", fnv::bytes(fnv::START, rest))?,
+        _ => {
+            if let Some(text) = vectors_script::text(line) {
+                println!(rt; "{:016x}", fnv::bytes(fnv::START, text))?;
+            }
+        }
     }
     Ok(shape)
 }
@@ -92,7 +108,7 @@ fn main(rt: HostRuntime) -> io::Result<()> {
     let script = vectors_script::read_script(&rt, &mut room)?;
     let mut words = [0u64; 162];
     let mut bytes = [0u8; 576];
-    let mut shape = vectors_fill::NO_SHAPE;
+    let mut shape = NO_SESSION;
     for line in script.split_inclusive(|b| *b == b'\n') {
         shape = command(&rt, line, &mut words, &mut bytes, shape)?;
     }
