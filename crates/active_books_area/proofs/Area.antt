@@ -281,9 +281,9 @@ pushed w s m r is_m less =
     (ap (list_from (word_at w₂ 1030) 0) count ∙ from_snoc (word_at w₂ 1030) 0 m ∙ (λ j. front j ++ (last j ∷ [])))
 
 -- the words 2 and 3, or 4 and 5
-pub catching_set : (w : List ℕ) (f s : ℕ) (o : Option ℕ) → BooksRules w → f ≡ cond (is_some o) 1 0 → s ≡ unwrap_or o 0 → MakesBook w (set (set w 2 f) 3 s) (catching_now (book_of w) (option_of o))
+pub catching_put : (w : List ℕ) (f s : ℕ) (o : Option ℕ) → BooksRules w → flagged f s ≡ option_of o → MakesBook w (set (set w 2 f) 3 s) (catching_now (book_of w) (option_of o))
 unfolding book_of
-catching_set w f s o r ef es =
+catching_put w f s o r e =
     let w₁ = set w 2 f in
     let w₂ = set w₁ 3 s in
     let in₁ : 2 < length w = omega (arith, r.long) in
@@ -294,7 +294,7 @@ catching_set w f s o r ef es =
     let x1 = same 1 (λ q. omega arith) (λ q. omega arith) in
     let x2 = other w₁ 3 s 2 (λ q. omega arith) ∙ get_or-set_same w 2 f 0 in₁ in
     let x3 = get_or-set_same w₁ 3 s 0 in₂ in
-    let xc : flagged (get_or w₂ 2 0) (get_or w₂ 3 0) ≡ option_of o = (λ j. flagged (x2 j) (x3 j)) ∙ flagged_option o f s ef es in
+    let xc : flagged (get_or w₂ 2 0) (get_or w₂ 3 0) ≡ option_of o = (λ j. flagged (x2 j) (x3 j)) ∙ e in
     let x4 = same 4 (λ q. omega arith) (λ q. omega arith) in
     let x5 = same 5 (λ q. omega arith) (λ q. omega arith) in
     let m = ap (list_from (book_entry w₂) 0) x0 ∙ from_alike (book_entry w₂) (book_entry w) 0 (get_or w 0 0) (λ k x y.
@@ -309,6 +309,9 @@ catching_set w f s o r ef es =
       ruled = record { long = omega (arith, r.long, out.size); few = omega (arith, r.few, x0); few_behind = omega (arith, r.few_behind, x1) };
       rest = out.rest;
     }
+
+pub catching_set : (w : List ℕ) (f s : ℕ) (o : Option ℕ) → BooksRules w → f ≡ cond (is_some o) 1 0 → s ≡ unwrap_or o 0 → MakesBook w (set (set w 2 f) 3 s) (catching_now (book_of w) (option_of o))
+catching_set w f s o r ef es = catching_put w f s o r (flagged_option o f s ef es)
 
 pub acknowledged_set : (w : List ℕ) (i : ℕ) → BooksRules w → MakesBook w (set (set w 4 1) 5 i) (acknowledged_now (book_of w) (some i))
 unfolding book_of

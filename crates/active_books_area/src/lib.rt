@@ -2,6 +2,7 @@
 #![tactic(auto)]
 
 ghost use Rattle.std.specs.Prelude.{◌≡◌, ◌==◌, ◌<◌, position};
+ghost use Rattle.std.proofs.Math.Option.{none};
 ghost use Rattle.model_active.specs.CatchUp.{is, member, sessions, catching_now};
 ghost use Rattle.active_books_area.specs.Words.{flagged, option_of, word_at, book_of, met_count_of};
 ghost use Rattle.active_books_area.specs.BookWord;
@@ -144,5 +145,14 @@ impl Books<'_> {
     {
         self.words[word::IS_CATCHING] = u64::from(session.is_some());
         self.words[word::CATCHING] = session.unwrap_or(0);
+    }
+
+    // None is being caught up any more; the word beside the flag has the session whose catch-up ended.
+    pub fn end_catching(&mut self, session: u64)
+        ensures same_area { self.new.words.ghost_name ≡ self.old.words.ghost_name }
+        ensures makes { MakesBook self.old.words.now self.new.words.now (catching_now (book_of self.old.words.now) none) }
+    {
+        self.words[word::IS_CATCHING] = 0;
+        self.words[word::CATCHING] = session;
     }
 }

@@ -11,4 +11,4 @@ returns-in_err-i c =
     rw (p.1, p.2) (ends_as (search rules) (refuses_one c.args.words.now c.meet_if_room.new.books.words.now c.args.session (m.ended c.args.session c.args.incarnation.0) c.in_err-i.field-0.0 refl c.in_ok-check_rules.ensures c.in_err-i.ensures.meets))
 
 pub returns : goal.returns
-returns c = ends_as (search rules) (ends c.args.words.now c.meet_if_room.new.books.words.now c.set_catching.new.self.words.now c.args.session c.in_ok-i.i c.args.incarnation.0 c.in_ok-check_rules.ensures c.in_ok-i.ensures.meets (c.is_compared-compared.ensures ∙ ap (λ (w : List ℕ). m.is (m.compared_of c.args.session (book_of w).met) c.args.incarnation.0) c.view.ensures) c.set_catching.ensures.makes)
+returns c = ends_as (search rules) (ends c.args.words.now c.meet_if_room.new.books.words.now c.end_catching.new.self.words.now c.args.session c.in_ok-i.i c.args.incarnation.0 c.in_ok-check_rules.ensures c.in_ok-i.ensures.meets (c.is_compared-compared.ensures ∙ ap (λ (w : List ℕ). m.is (m.compared_of c.args.session (book_of w).met) c.args.incarnation.0) c.view.ensures) c.end_catching.ensures.makes)
