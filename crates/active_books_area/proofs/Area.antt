@@ -16,7 +16,7 @@ use Rattle.std.proofs.lemmas.List.Sums.{fails_before_first}
 use Rattle.model_active.proofs.Lists.{eqb_swap}
 use Rattle.base_refusals.specs.declared.Refusal.{Refusal}
 use lib.Dec.{eqb, ltb}
-use borrow.Author.Tests.{lt-ltb, le-ltb, ltb-false, eq-eqb, ne_eqb, eqb-true, eqb-false}
+use borrow.Author.Tests.{lt-ltb, le-ltb, ltb-true, ltb-false, eq-eqb, ne_eqb, eqb-true, eqb-false}
 use Rattle.model_active.specs.CatchUp.{Entry, Book, new, member, meeting, sessions, opens_of, compared_of, on_entry, compared_with, is, less, met_now, behind_now, catching_now, acknowledged_now}
 use Rattle.active_books_area.specs.Words.{list_from, word_at, book_entry, flagged, option_of, book_of}
 use Rattle.active_books_area.specs.Parts.{BooksRules, MakesBook, At, FindsMet, Appends, Meets, IsFull}
@@ -41,6 +41,29 @@ run_of w base n fits = ap (λ (k : ℕ). take n (drop k w)) (sym (plus-zero base
 pub contained : (s : ℕ) (l : List ℕ) → list_any (λ x. eqb x s) l ≡ member s l
 contained s [] = refl
 contained s (x ∷ l) = λ j. eqb_swap x s j || contained s l j
+
+less_more : (r n : ℕ) → ltb (1 + r) (suc n) ≡ ltb r n
+less_more r n = go (ltb r n) refl
+  where
+    go : (b : Bool) → ltb r n ≡ b → ltb (1 + r) (suc n) ≡ ltb r n
+    go true t = let less : 1 + r < suc n = omega (arith, ltb-true r n t) in lt-ltb (1 + r) (suc n) less ∙ sym t
+    go false t = let over : suc n ≤ 1 + r = omega (arith, ltb-false r n t) in le-ltb (1 + r) (suc n) over ∙ sym t
+
+stands : (s : ℕ) (l : List ℕ) → ltb (position_or_len (λ x. eqb x s) l) (length l) ≡ member s l
+stands s [] = refl
+stands s (x ∷ l) = go (eqb x s) ∙ (λ j. eqb_swap x s j || stands s l j)
+  where
+    go : (b : Bool) → ltb (cond (not b) (1 + position_or_len (λ x. eqb x s) l) 0) (suc (length l)) ≡ (b || ltb (position_or_len (λ x. eqb x s) l) (length l))
+    go true = let some : 0 < suc (length l) = omega arith in lt-ltb 0 (suc (length l)) some
+    go false = less_more (position_or_len (λ x. eqb x s) l) (length l)
+
+-- a search finds those that are members
+pub found_is : (s : ℕ) (l : List ℕ) → is_some (position (λ x. eqb x s) l) ≡ member s l
+found_is s l = go (ltb (position_or_len (λ x. eqb x s) l) (length l)) ∙ stands s l
+  where
+    go : (b : Bool) → is_some (cond b (Some (position_or_len (λ x. eqb x s) l)) None) ≡ b
+    go true = refl
+    go false = refl
 
 first_of_lem : (w : List ℕ) (s i : ℕ) → At w s i → First s i (word_at w 6) 0 (get_or w 0 0)
 first_of_lem w s i a = record { low = omega arith; high = omega (arith, a.inside); before = λ k x y. a.before k y; there = λ h. a.there }

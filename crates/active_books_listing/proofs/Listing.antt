@@ -1,5 +1,5 @@
 -- All of a listing are met: what is gathered, and what is appended. Assumes nothing.
-use mathlib.Core.Path.{◌≡◌, refl, sym, ap, ◌∙◌}
+use mathlib.Core.Path.{◌≡◌, refl, sym, ap, subst, ◌∙◌}
 use mathlib.Core.Bool.{Bool, true, false, cond, ◌||◌, true≢false}
 use mathlib.Core.List.{List, [], ◌∷◌, ◌++◌, append_assoc}
 use Prim.Native.Nat.{ℕ, zero, suc, ◌+◌, ◌<◌, ◌≤◌}
@@ -16,8 +16,8 @@ use borrow.Author.Tests.{eq-eqb, eqb-true, ltb-true}
 use Rattle.base_refusals.specs.declared.Refusal.{Refusal}
 use Rattle.model_active.specs.CatchUp.{Entry, Book, member, sessions, new, meeting, met_now}
 use Rattle.active_books_area.specs.Words.{book_of}
-use Rattle.active_books_listing.specs.Listings.{AreNew, NoRoom}
-use Rattle.active_books_area.specs.Parts.{MakesBook, Appends}
+use Rattle.active_books_listing.specs.Listings.{KnownFirst, AreNew, NoRoom}
+use Rattle.active_books_area.specs.Parts.{BooksRules, MakesBook, Appends}
 use Rattle.active_books_area.proofs.Area.{length_met}
 
 -- ---- members
@@ -122,6 +122,10 @@ module _ (w l a : List ℕ) (j : ℕ) (g : Gathering w l a j) (less : j < length
 
 pub gathered : (w l a : List ℕ) (j : ℕ) → Gathering w l a j → length l ≤ j → AreNew w l a
 gathered w l a j g end = record { meets = g.left ∙ ap (λ (x : List ℕ). meeting x ((book_of w).met ++ map new a)) (drop_of_length-le l end); fit = g.room }
+
+-- those met before
+pub goes_on : (w l : List ℕ) (k : ℕ) (a : List ℕ) → BooksRules w → KnownFirst w l k → a ≡ [] → Gathering w l a k
+goes_on w l k a r f e = subst (λ (x : List ℕ). Gathering w l x k) (sym e) (record { upto = f.upto; room = omega (arith, r.few); left = f.left ∙ ap (meeting (drop k l)) (sym (append_nil (book_of w).met)) })
 
 -- ---- appending them
 

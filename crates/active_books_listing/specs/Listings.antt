@@ -1,10 +1,15 @@
 -- What the parts that meet a listing promise. Assumes nothing.
-use Rattle.std.specs.Prelude.{◌≡◌, List, ◌++◌, ℕ, ◌+◌, ◌≤◌, ◌<◌, length, map, Result, Ok, Err}
+use Rattle.std.specs.Prelude.{◌≡◌, List, ◌++◌, ℕ, ◌+◌, ◌≤◌, ◌<◌, length, drop, map, Result, Ok, Err}
 use Rattle.arrayvec.specs.ArrayVec.{ArrayVec}
 use Rattle.base_refusals.specs.declared.Refusal.{Refusal}
 use Rattle.model_active.specs.CatchUp.{new, met_now, meeting}
 use Rattle.active_books_area.specs.Words.{book_of, met_count_of}
 use Rattle.active_books_area.specs.Parts.{MakesBook}
+
+-- the first k of the listing were met before
+pub record KnownFirst (w l : List ℕ) (k : ℕ) : Type 0 where
+  pub upto : k ≤ length l
+  pub left : meeting l (book_of w).met ≡ meeting (drop k l) (book_of w).met
 
 -- these of the listing are new, and there is room for them
 pub record AreNew (w l fresh : List ℕ) : Type 0 where

@@ -1,5 +1,5 @@
 use Rattle.active_books_listing.proofs.Listing.{Gathering}
-use Rattle.active_books_listing.proofs.gather.Given as goal
+use Rattle.active_books_listing.proofs.gather_from.Given as goal
 
 abbrev pub invariant-loop-place : goal.invariant-loop-place
 invariant-loop-place l = Gathering l.books.words.now l.listing l.fresh.items l.place
