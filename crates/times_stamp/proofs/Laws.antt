@@ -4,13 +4,11 @@ use mathlib.Core.Bool.{Bool, true, false, cond, and-false}
 use mathlib.Core.Logic.{◌⊎◌, inl, inr}
 use mathlib.Core.List.{List, ◌++◌}
 use Prim.Native.Nat.{ℕ, ◌+◌, ◌-◌, ◌*◌, ◌/◌, ◌%◌, ◌≤◌, ◌<◌}
-use native.Mathlib.Nat.{zero-add}
 use native.Mathlib.Omega.{arith}
-use native.Mathlib.Numerals.{add-one}
 use borrow.Author.Tests.{lt-ltb, le-ltb, lt-leb, le-leb}
 use lib.Dec.{leb, ltb, eqb}
-use lib.ListN.{length, get_or, set, take, drop}
-use lib.Seq.{length-take-le, paste, paste-suc}
+use lib.ListN.{length, take, drop}
+use lib.Seq.{length-take-le}
 use Rattle.model_text.specs.Stamp.{is_stamp}
 use Rattle.model_times.specs.Days.{days_before_year, year_at, days_before_month, month_at}
 use Rattle.model_times.specs.Times as model
@@ -135,14 +133,6 @@ pub picos_are : (t : model.Time) {n : ℕ} → n ≡ (t.micro * 1000 + t.nano) *
 picos_are t e = e ∙ sym (in_picos t)
 
 -- ---- what is left in the area
-
--- the text's first i bytes stand in it
-pub pastes : (area full : List ℕ) {out : List ℕ} {i : ℕ} → i < length area → i < length full → out ≡ paste area 0 full i → set out i (get_or full i 0) ≡ paste area 0 full (i + 1)
-pastes area full {out} {i} inside within e =
-    ap (λ (l : List ℕ). set l i (get_or full i 0)) e ∙ ap (λ (k : ℕ). set (paste area 0 full i) k (get_or full i 0)) (sym (zero-add i)) ∙ paste-suc area 0 full i 0 (rw zero-add inside) within ∙ rw add-one refl
-
-pub pasted : (area full : List ℕ) (i n : ℕ) {out : List ℕ} → out ≡ paste area 0 full i → i ≡ n → out ≡ take n full ++ drop n area
-pasted area full i n {out} e end = e ∙ (λ j. take (end j) full ++ drop ((zero-add i ∙ end) j) area)
 
 pub put : (t : model.Time) (n : ℕ) (full : List ℕ) (area new : List ℕ) → n ≡ shortest_length t → full ≡ full_text t → new ≡ take n full → new ++ drop n area ≡ text_of t ++ drop (length (text_of t)) area
 unfolding text_of

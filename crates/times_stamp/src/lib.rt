@@ -213,9 +213,6 @@ pub fn write(moment: Moment, out: &mut [u8]) -> Result<usize, Refusal>
         return Err(Refusal::NoRoom);
     }
     let text = full_text(time);
-    // Byte by byte, since `copy_from_slice` calls `memmove` (base_bytes::copy).
-    for i in 0..n {
-        out[i] = text[i];
-    }
+    out[0..n].copy_from_slice(&text[0..n]);
     Ok(n)
 }

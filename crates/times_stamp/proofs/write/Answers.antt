@@ -1,9 +1,8 @@
-use Rattle.std.proofs.Common.{rules, arith, refl, sym, ap, subst, ◌∙◌, ◌≡◌, length, take}
-use lib.ListN.{length-set}
+use Rattle.std.proofs.Common.{rules, arith, sym, ap, subst, ◌∙◌, ◌≡◌, ◌-◌, ◌++◌, length, take, drop}
 use Rattle.model_times.specs.Times.{InCalendar, Written, lent, area_after, shortest_length, full_text, time_at}
 use Rattle.model_times.proofs.Numbers.{in_calendar}
 use Rattle.times_stamp.specs.Answers.{told, length_is}
-use Rattle.times_stamp.proofs.Laws.{past_end, no_room, fits, text_length, pastes, pasted, put}
+use Rattle.times_stamp.proofs.Laws.{past_end, no_room, fits, text_length, put}
 use Rattle.times_stamp.proofs.write.Goals as goal
 
 pub returns-then-moment-ge-END-clause-answer : goal.returns-then-moment-ge-END-clause-answer
@@ -37,11 +36,8 @@ pub returns-clause-area : goal.returns-clause-area
 returns-clause-area c =
     let e : c.shortest_length-n.result ≡ shortest_length (time_at c.args.moment.millis c.args.moment.picos) = c.shortest_length-n.ensures ∙ ap shortest_length c.time_at-time.ensures in
     let f : c.full_text-text.result ≡ full_text (time_at c.args.moment.millis c.args.moment.picos) = c.full_text-text.ensures ∙ ap full_text c.time_at-time.ensures in
-    pasted c.args.out.now c.full_text-text.result c.loop-i.i c.shortest_length-n.result c.loop-i.invariant.1 (omega arith)
-    ∙ put (time_at c.args.moment.millis c.args.moment.picos) c.shortest_length-n.result c.full_text-text.result c.args.out.now (take c.shortest_length-n.result c.full_text-text.result) e f refl
+    let z : c.shortest_length-n.result - 0 ≡ c.shortest_length-n.result = omega arith in
+    (λ i. c.copy_from_slice.new.self ++ drop (z i) c.args.out.now)
+    ∙ put (time_at c.args.moment.millis c.args.moment.picos) c.shortest_length-n.result c.full_text-text.result c.args.out.now c.copy_from_slice.new.self e f
+    (c.copy_from_slice.ensures.after ∙ (λ i. take (z i) c.full_text-text.result))
     ∙ sym (ap (λ (x : Written). area_after x c.args.out.now) (fits c.args.moment.millis c.args.moment.picos (length c.args.out.now) (search rules) (search rules) e c.if-out-n.false))
-
-pub loop-i-preserved : goal.loop-i-preserved
-loop-i-preserved c =
-    let i = c.loop-i.invariant in
-    (length-set _ _ _ ∙ i.0, pastes c.args.out.now c.full_text-text.result (omega arith) (search rules) i.1)
