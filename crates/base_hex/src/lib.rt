@@ -5,15 +5,18 @@ ghost use Rattle.std.specs.Prelude.{◌≡◌, ◌+◌, ◌*◌, ◌/◌, ◌%�
 ghost use Rattle.model_text.specs.Hex.{digit_value, bytes_from, line_bytes, digit_of, hex_of, refusal_text};
 ghost use Rattle.base_hex.specs.Lines.{IsByteOf, ReadsLine, WroteFront, Puts};
 
-// The value of a digit, 16 for a byte that is none: with an `Option` whether a byte is 0 to 9 or a to f is a jump, and a line of mixed digits takes up to three times as long.
+// The value of a digit, 16 for a byte that is none, without a jump: with an `Option`, or by a `match`, whether a byte is 0 to 9 or a to f is one, and a line
+// of mixed digits takes twice as long.
 #[tactic(auto, unfolding(model_text::specs::Hex::digit_value))]
 fn digit_value(b: u8) -> u8
     ensures { result ≡ digit_value b }
 {
-    match b {
-        b'0'..=b'9' => b - b'0',
-        b'a'..=b'f' => b - b'a' + 10,
-        _ => 16,
+    if (b'0' <= b) & (b <= b'9') {
+        b - b'0'
+    } else if (b'a' <= b) & (b <= b'f') {
+        b - b'a' + 10
+    } else {
+        16
     }
 }
 
