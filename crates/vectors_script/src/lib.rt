@@ -2,6 +2,7 @@
 #![tactic(auto)]
 
 ghost use Rattle.std.specs.Prelude.{◌≤◌, IfOk, length};
+ghost use Rattle.vectors_script.specs.Words.{ReadsNumbers};
 
 use base_refusals::Refusal;
 use std::io;
@@ -134,6 +135,22 @@ pub fn byte(words: &mut SplitWhitespace<'_>) -> u8 {
     (number(words) & 0xff) as u8
 }
 
+// The numbers of the words that are left, as many as there is room for; `Fields::numbers` reads fields.
+pub fn numbers<'a>(words: &mut SplitWhitespace<'_>, room: &'a mut [u64]) -> &'a [u64]
+    ensures { ReadsNumbers room.old result.now words.old words.new }
+{
+    let mut count: usize = 0;
+    for place in &mut *room {
+        let Some(word) = words.next() else {
+            break;
+        };
+        *place = word.parse().unwrap_or(0);
+        // At most as many as there are places, so the sum never saturates.
+        count = count.saturating_add(1);
+    }
+    room.get(..count).unwrap_or(&[])
+}
+
 // A refusal as every program writes it: by its number, as an Answer of C has it.
 pub fn print_refusal(rt: &impl Print, number: u8) -> io::Result<()> {
     println!(rt; "R {number}")
@@ -192,4 +209,23 @@ where
         }
     }
     Ok(())
+}
+
+#[cfg(test)]
+mod tests {
+    use super::*;
+
+    #[test]
+    fn numbers_of_words(rt: HostRuntime) {
+        let mut room = [9u64; 4];
+        // A word that is no number of 64 bits counts as 0, a plus may stand before one, and what there is no room for is left.
+        let mut left = words(b" 7  x +18446744073709551615\n18446744073709551616 5");
+        assert_eq!(rt;
+            numbers(&mut left, &mut room),
+            [7, 0, u64::MAX, 0].as_slice()
+        );
+        // With fewer words than there is room for, as many numbers as there are words, and none after them.
+        assert_eq!(rt; numbers(&mut left, &mut room), [5].as_slice());
+        assert_eq!(rt; numbers(&mut left, &mut room), [].as_slice());
+    }
 }
